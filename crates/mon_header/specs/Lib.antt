@@ -1,0 +1,5 @@
+pub mod Wild
+pub mod Matching
+pub mod Order
+pub mod Raw
+pub mod Actions

@@ -1,0 +1,63 @@
+//! Lists of actions.
+
+ghost use Rattle.std.specs.Prelude.{◌≡◌, ◌<◌, ◌^◌, ◌++◌, ◌∷◌, [], List, ℕ, OnOk, OnErr, IfOk};
+ghost use Rattle.mon_header.specs.Actions.{FitsAction, AllFit};
+
+use crate::action::Action;
+use mon_list::OutOfMemory;
+use std::alloc::Global;
+use std::marker::Model;
+
+/// The actions of a rule, in order. Addresses in them are below 2^48.
+#[derive(Drop)]
+pub struct Actions {
+    items: Vec<Action>,
+}
+
+impl Model for Actions {
+    ghost use Rattle.std.specs.Prelude.{List};
+    ghost use Rattle.mon_header.specs.declared.action.Action.{Action};
+    ghost use Rattle.mon_header.specs.Actions.{AllFit};
+
+    ghost Value = { List Action };
+
+    ghost view = { λ l. l.items.items };
+
+    ghost invariant = { λ l. AllFit l.items.items };
+}
+
+impl Actions {
+    /// No action, which drops a packet. It takes no memory yet.
+    pub fn new(alloc: Global) -> Actions
+        ensures { result ≡ [] }
+    {
+        Actions {
+            items: Vec::new(alloc),
+        }
+    }
+
+    /// Appends one action, or changes nothing for want of memory.
+    pub fn push(&mut self, action: Action) -> Result<(), OutOfMemory>
+        requires { FitsAction action }
+        ensures pushed { OnOk result (self.new ≡ self.old ++ action ∷ []) }
+        ensures same { OnErr result (self.new ≡ self.old) }
+    {
+        self.items.push(action)?;
+        Ok(())
+    }
+
+    /// The actions, in order.
+    pub fn items(&self) -> &[Action]
+        ensures value { result.now ≡ self.now }
+        ensures fit { AllFit self.now }
+    {
+        &self.items
+    }
+
+    /// Hands the actions out.
+    pub fn into_items(self) -> Vec<Action>
+        ensures { result.items ≡ self }
+    {
+        self.items
+    }
+}

@@ -1,0 +1,19 @@
+//! A header: twelve numbers.
+
+/// The twelve fields that a switch compares (OpenFlow 1.0.0, flow table, header fields). A field that a packet lacks
+/// is 0, and `dl_vlan` of an untagged packet is 0xffff. Both `dl_` addresses are below 2^48.
+#[derive(Clone, Copy, Debug, PartialEq, Eq)]
+pub struct Header {
+    pub in_port: u16,
+    pub dl_src: u64,
+    pub dl_dst: u64,
+    pub dl_vlan: u16,
+    pub dl_vlan_pcp: u8,
+    pub dl_type: u16,
+    pub nw_tos: u8,
+    pub nw_proto: u8,
+    pub nw_src: u32,
+    pub nw_dst: u32,
+    pub tp_src: u16,
+    pub tp_dst: u16,
+}

@@ -1,0 +1,15 @@
+//! Headers, matches and actions of OpenFlow 1.0.0, without their bytes.
+#![tactic(auto)]
+
+mod action;
+mod actions;
+mod header;
+mod matching;
+mod wild;
+
+pub use action::{Action, RawAction};
+pub use actions::Actions;
+pub use header::Header;
+pub use matching::{Match, covers, effective, matches, overlaps};
+pub use mon_list::OutOfMemory;
+pub use wild::Wildcards;
