@@ -1,0 +1,4 @@
+pub mod FirstLine
+pub mod Named
+pub mod Taken
+pub mod Whole
