@@ -7,8 +7,8 @@ mod header;
 mod matching;
 mod wild;
 
-pub use action::{Action, RawAction};
-pub use actions::Actions;
+pub use action::{Action, RawAction, same_action};
+pub use actions::{Actions, same_actions};
 pub use header::Header;
 pub use matching::{Match, covers, effective, matches, overlaps};
 pub use mon_list::OutOfMemory;
