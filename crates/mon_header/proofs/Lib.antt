@@ -6,3 +6,4 @@ pub mod Twelve
 pub mod Agreeing
 pub mod Sharing
 pub mod Covering
+pub mod Bits

@@ -7,6 +7,7 @@ mod header;
 mod laws;
 mod matching;
 mod order;
+mod places;
 mod wild;
 
 pub use action::{Action, RawAction, same_action};
@@ -19,4 +20,5 @@ pub use laws::{
 pub use matching::{Match, covers, effective, matches, overlaps};
 pub use mon_list::OutOfMemory;
 pub use order::{match_before, same_header, same_match};
+pub use places::{bit, from_bits};
 pub use wild::Wildcards;
