@@ -1,14 +1,14 @@
 -- Bits of numbers, of fields that stand one after the other, and the numbers of bits.
-use Rattle.std.proofs.Common.{◌≡◌, ℕ, zero, suc, ◌+◌, ◌-◌, ◌*◌, ◌/◌, ◌%◌, ◌^◌, ◌<◌, ◌≤◌, Bool, true, false, List, [], ◌∷◌, ◌++◌, length, take, drop, get_or, refl, sym, ap, subst, ◌∙◌, arith}
+use Rattle.std.proofs.Common.{◌≡◌, ℕ, zero, suc, ◌+◌, ◌-◌, ◌*◌, ◌/◌, ◌%◌, ◌^◌, ◌<◌, ◌≤◌, Bool, true, false, List, ◌∷◌, ◌++◌, length, drop, get_or, refl, ap, ◌∙◌, arith}
 use mir.Val.{bool_byte}
 use Rattle.std.specs.Prelude.{◌==◌}
-use Rattle.std.proofs.lemmas.Nat.{pow-add, pow_pos, div-mul-add}
+use Rattle.std.proofs.lemmas.Nat.{pow-add}
 use Rattle.std.proofs.Math.Nat.{div-eq_of_lt, pow-le-pow_right, pow-suc, add-mul, mul_assoc, mul_comm}
 use Rattle.std.proofs.Math.Seq.{drop-cons}
 use Rattle.mon_header.specs.Wild.{flag, bit}
 use Rattle.mon_header.specs.Places.{bits_of, joined, number}
 
-flag-small : (b : Bool) → flag b ≤ 1
+pub flag-small : (b : Bool) → flag b ≤ 1
 flag-small true = omega arith
 flag-small false = omega arith
 
@@ -72,8 +72,7 @@ number-step bits i n m total h small e step =
     let double : 2 ^ suc (length rest) ≡ p * 2 = pow-suc 2 (length rest) in
     let spread : (2 * n + flag b) * p ≡ 2 * n * p + flag b * p = add-mul (2 * n) (flag b) p in
     let one : 2 * n * p ≡ n * (p * 2) = mul_assoc 2 n p ∙ mul_comm 2 (n * p) ∙ mul_assoc n p 2 in
-    let line : n * (p * 2) + (flag b * p + number rest) ≡ total = rw (← double) whole in
-    (
+    let line : n * (p * 2) + (flag b * p + number rest) ≡ total = rw (← double) whole in (
       (let s : flag b ≤ 1 = flag-small b in omega arith),
       rw step (omega arith),
     )

@@ -7,3 +7,5 @@ pub mod Agreeing
 pub mod Sharing
 pub mod Covering
 pub mod Bits
+pub mod Spelling
+pub mod Placing

@@ -14,7 +14,7 @@ pub use action::{Action, RawAction, same_action};
 pub use actions::{Actions, same_actions};
 pub use header::Header;
 pub use laws::{
-    covering_is_taking_all, normal_is_kept, order_is_strict_and_total,
+    bits_are_the_header, covering_is_taking_all, normal_is_kept, order_is_strict_and_total,
     overlapping_is_a_shared_header,
 };
 pub use matching::{Match, covers, effective, matches, overlaps};

@@ -1,4 +1,4 @@
-use Rattle.std.proofs.Common.{arith, sym, ◌∙◌, ◌≡◌, ◌≤◌, ◌<◌, length}
+use Rattle.std.proofs.Common.{arith, sym, ◌∙◌}
 use Rattle.mon_header.proofs.Bits.{walk-within, walk-beyond}
 use Rattle.mon_header.proofs.places.bit.Goals as goal
 

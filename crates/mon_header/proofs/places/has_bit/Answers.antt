@@ -1,5 +1,5 @@
 use Rattle.std.proofs.Common.{sym, arith, ◌∙◌, ◌≤◌}
-use Rattle.std.proofs.lemmas.Bool.{le-ltb, ltb-false}
+use Rattle.std.proofs.lemmas.Bool.{le-ltb}
 use Rattle.mon_header.proofs.Bits.{no-bit}
 use Rattle.mon_header.proofs.places.has_bit.Goals as goal
 
