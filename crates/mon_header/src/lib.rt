@@ -3,6 +3,8 @@
 
 mod action;
 mod actions;
+#[cfg(test)]
+mod cases;
 mod class;
 mod header;
 mod laws;
