@@ -1,0 +1,5 @@
+pub mod Rules
+pub mod Tables
+pub mod Edits
+pub mod Winners
+pub mod Places
