@@ -5,6 +5,7 @@ mod action;
 mod actions;
 mod header;
 mod matching;
+mod order;
 mod wild;
 
 pub use action::{Action, RawAction, same_action};
@@ -12,4 +13,5 @@ pub use actions::{Actions, same_actions};
 pub use header::Header;
 pub use matching::{Match, covers, effective, matches, overlaps};
 pub use mon_list::OutOfMemory;
+pub use order::{match_before, same_header, same_match};
 pub use wild::Wildcards;
