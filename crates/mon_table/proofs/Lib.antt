@@ -1,0 +1,4 @@
+pub mod Ranking
+pub mod Placing
+pub mod Keeping
+pub mod Listing

@@ -1,7 +1,6 @@
 -- A table is its list of rules, in table order.
-use Rattle.std.specs.Prelude.{◌≡◌, ℕ, suc, Bool, true, not, ◌==◌, ◌&&◌, ◌⊎◌, if◌then◌else◌, List, [], ◌∷◌}
+use Rattle.std.specs.Prelude.{◌≡◌, ℕ, suc, Bool, true, not, ◌==◌, ◌&&◌, ◌⊎◌, if◌then◌else◌, List, [], ◌∷◌, Option}
 use Rattle.std.specs.List.{filter, find, list_any, AllByRecursion}
-use Rattle.std.specs.Option.{Option}
 use Rattle.mon_header.specs.Matching.{Matching, IsNormal, covers, overlaps}
 use Rattle.mon_table.specs.declared.rule.Rule.{Rule}
 use Rattle.mon_table.specs.Rules.{Identity, identity_of, rank, same_identity, comes_before}

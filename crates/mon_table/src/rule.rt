@@ -1,9 +1,10 @@
 //! Rules.
 
 ghost use Rattle.std.specs.Prelude.{◌≡◌, IfOk};
+ghost use Rattle.mon_table.specs.Tables.{ties};
 ghost use Rattle.mon_table.specs.Rules.{identity_of, rank, same_identity, comes_before};
 
-use mon_header::{Actions, Match, OutOfMemory, effective, match_before, same_match};
+use mon_header::{Actions, Match, OutOfMemory, effective, match_before, overlaps, same_match};
 use std::alloc::Global;
 
 /// An entry of a flow table (OpenFlow 1.0.0, flow table): which packets it takes, its priority field, and what it does
@@ -50,5 +51,16 @@ impl Rule {
     {
         let own = self.rank();
         rank < own || own == rank && match_before(&self.matching, m)
+    }
+
+    /// Whether another rule has another identity and the same effective priority, and overlaps this one.
+    #[tactic(auto, unfolding(crate::specs::Tables::ties))]
+    pub(crate) fn ties(&self, other: &Rule) -> bool
+        ensures { result ≡ ties self.now other.now }
+    {
+        let rank = self.rank();
+        other.rank() == rank
+            && !other.has_identity(&self.matching, rank)
+            && overlaps(&other.matching, &self.matching)
     }
 }
