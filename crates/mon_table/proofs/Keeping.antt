@@ -19,7 +19,7 @@ all-placed : (P : Rule → Type 0) (r : Rule) (t : List Rule) → P r → AllByR
 all-placed P r [] p a = (p, tt)
 all-placed P r (x ∷ t) p a = ⊎_elim (λ e. rw e (a.0, all-placed P r t p a.1)) (λ e. rw e (p, a)) (cases_Bool (comes_before (identity_of x) (identity_of r)))
 
-order-filter : (p : Rule → Bool) (t : List Rule) → InOrder t → InOrder (filter p t)
+pub order-filter : (p : Rule → Bool) (t : List Rule) → InOrder t → InOrder (filter p t)
 order-filter p [] o = o
 order-filter p (x ∷ t) o = ⊎_elim
     (λ e. rw e (all-filter (λ s. comes_before (identity_of x) (identity_of s) ≡ true) p t o.0, order-filter p t o.1))

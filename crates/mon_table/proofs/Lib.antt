@@ -2,3 +2,6 @@ pub mod Ranking
 pub mod Placing
 pub mod Keeping
 pub mod Listing
+pub mod Members
+pub mod Slicing
+pub mod Undoing

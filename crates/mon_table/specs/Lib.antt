@@ -3,3 +3,4 @@ pub mod Tables
 pub mod Edits
 pub mod Winners
 pub mod Places
+pub mod Laws

@@ -59,7 +59,7 @@ slice m t = filter (λ r. overlaps m r.matching) t
 
 -- another rule of the same effective priority, whose match overlaps
 unfoldable pub ties : Rule → Rule → Bool
-ties r s = (rank s == rank r) && (not (same_identity (identity_of s) (identity_of r)) && overlaps s.matching r.matching)
+ties r s = (rank s == rank r) && (not (same_identity (identity_of s) (identity_of r)) && overlaps r.matching s.matching)
 
 -- some rule of the table ties with the rule
 abbrev pub tied : List Rule → Rule → Bool

@@ -12,6 +12,7 @@
 #![tactic(auto)]
 
 mod edit;
+pub mod laws;
 mod rule;
 mod table;
 

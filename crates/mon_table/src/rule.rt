@@ -61,6 +61,6 @@ impl Rule {
         let rank = self.rank();
         other.rank() == rank
             && !other.has_identity(&self.matching, rank)
-            && overlaps(&other.matching, &self.matching)
+            && overlaps(&self.matching, &other.matching)
     }
 }
