@@ -46,8 +46,8 @@ order-placed r [] m n d o = (tt, tt)
 order-placed r (x ∷ t) m n d o = ⊎_elim
     (λ e. rw e (all-placed (λ s. comes_before (identity_of x) (identity_of s) ≡ true) r t e o.0, order-placed r t m n.1 d.1 o.1))
     (λ e. rw e (
-      let first : comes_before (identity_of r) (identity_of x) ≡ true = other-behind (identity_of x) (identity_of r) n.0 m e d.0 in
-      ((first, behind-more (identity_of r) (identity_of x) t first o.0), o)))
+    let first : comes_before (identity_of r) (identity_of x) ≡ true = other-behind (identity_of x) (identity_of r) n.0 m e d.0 in
+    ((first, behind-more (identity_of r) (identity_of x) t first o.0), o)))
     (cases_Bool (comes_before (identity_of x) (identity_of r)))
 
 pub table-filter : (p : Rule → Bool) (t : List Rule) → IsTable t → IsTable (filter p t)

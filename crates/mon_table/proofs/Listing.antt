@@ -66,7 +66,7 @@ places-stop h top t found all n r lt e o low p =
     let rest : drop n t ≡ r ∷ drop (suc n) t = drop-cons t n r lt ∙ ap (λ (s : Rule). s ∷ drop (suc n) t) (sym e) in
     let order : InOrder (r ∷ drop (suc n) t) = subst InOrder rest (order-drop t n o) in
     let none : AllByRecursion (λ s. is_at_rank h top s ≡ false) (r ∷ drop (suc n) t) =
-        (and_left _ _ (ne_eqb (rank r) top (λ f. omega arith)), low-rest h top r (drop (suc n) t) low order.0) in
+    (and_left _ _ (ne_eqb (rank r) top (λ f. omega arith)), low-rest h top r (drop (suc n) t) low order.0) in
     let step : found ++ places_from n (is_at_rank h top) (r ∷ drop (suc n) t) ≡ all = subst (λ (s : List Rule). found ++ places_from n (is_at_rank h top) s ≡ all) rest p in
     sym (append-nil found) ∙ (ap (λ (s : List ℕ). found ++ s) (sym (places-none (is_at_rank h top) n (r ∷ drop (suc n) t) none)) ∙ step)
 
@@ -110,10 +110,10 @@ top-high : (h : Header) (n : ℕ) (t : List Rule) → InOrder t → top_rank h t
 top-high h n [] o e = tt
 top-high h n (r ∷ t) o e = ⊎_elim
     (λ m.
-      let f : top_rank h (r ∷ t) ≡ Some (rank r) = rw m refl in
-      let g : Some (rank r) ≡ Some n = sym f ∙ e in
-      let same : rank r ≡ n = cc in
-      (λ _. omega arith, weaker (λ s. rank s ≤ n) (λ s. matches s.matching h ≡ true → rank s ≤ n) t (λ s le _. le) (below-first r t n same o.0)))
+    let f : top_rank h (r ∷ t) ≡ Some (rank r) = rw m refl in
+    let g : Some (rank r) ≡ Some n = sym f ∙ e in
+    let same : rank r ≡ n = cc in
+    (λ _. omega arith, weaker (λ s. rank s ≤ n) (λ s. matches s.matching h ≡ true → rank s ≤ n) t (λ s le _. le) (below-first r t n same o.0)))
     (λ m. (λ y. absurd (false≢true (sym m ∙ y)), top-high h n t o.1 (let f : top_rank h (r ∷ t) ≡ top_rank h t = rw m refl in sym f ∙ e)))
     (cases_Bool (matches r.matching h))
 
@@ -128,12 +128,12 @@ top-is : (h : Header) (n : ℕ) (t : List Rule) → top_rank h t ≡ Some n → 
 top-is h n [] e = absurd (let f : ⊥ = cc in f)
 top-is h n (r ∷ t) e = ⊎_elim
     (λ m.
-      let f : top_rank h (r ∷ t) ≡ Some (rank r) = rw m refl in
-      let g : Some (rank r) ≡ Some n = sym f ∙ e in
-      record { first = r; has = inl refl; taken = m; high = cc })
+    let f : top_rank h (r ∷ t) ≡ Some (rank r) = rw m refl in
+    let g : Some (rank r) ≡ Some n = sym f ∙ e in
+    record { first = r; has = inl refl; taken = m; high = cc })
     (λ m.
-      let rest = top-is h n t (let f : top_rank h (r ∷ t) ≡ top_rank h t = rw m refl in sym f ∙ e) in
-      record { first = rest.first; has = inr rest.has; taken = rest.taken; high = rest.high })
+    let rest = top-is h n t (let f : top_rank h (r ∷ t) ≡ top_rank h t = rw m refl in sym f ∙ e) in
+    record { first = rest.first; has = inr rest.has; taken = rest.taken; high = rest.high })
     (cases_Bool (matches r.matching h))
 
 highest-at : (h : Header) (n : ℕ) (t : List Rule) (r : Rule) → AllByRecursion (λ s. matches s.matching h ≡ true → rank s ≤ n) t → rank r ≡ n → is_highest t h r ≡ true
@@ -147,7 +147,7 @@ at-highest : (h : Header) (n : ℕ) (t : List Rule) (r : Rule) → Top h n t →
 unfolding is_highest
 at-highest h n t r top e =
     let p : (not (matches top.first.matching h) || nat_le (rank top.first) (rank r)) ≡ true =
-        has-list_all (λ s. not (matches s.matching h) || nat_le (rank s) (rank r)) t top.first e top.has in
+    has-list_all (λ s. not (matches s.matching h) || nat_le (rank s) (rank r)) t top.first e top.has in
     let q : nat_le (rank top.first) (rank r) ≡ true = rw top.taken at p in
     let le : rank top.first ≤ rank r = leb-true (rank top.first) (rank r) q in
     let high : rank top.first ≡ n = top.high in
@@ -167,11 +167,11 @@ wins-at : (h : Header) (n : ℕ) (t : List Rule) → InOrder t → top_rank h t 
 wins-at h n t o e r i =
     let high = top-high h n t o e in
     swapped (rank r == n) (is_highest t h r) (matches r.matching h) (λ m. same-test (rank r == n) (is_highest t h r)
-      (λ s. highest-at h n t r high (eqb-true (rank r) n s))
-      (λ f.
-        let above : n ≤ rank r = at-highest h n t r (top-is h n t e) f in
-        let below : rank r ≤ n = has-all (λ s. matches s.matching h ≡ true → rank s ≤ n) t r high i m in
-        eq-eqb (rank r) n (omega arith)))
+    (λ s. highest-at h n t r high (eqb-true (rank r) n s))
+    (λ f.
+    let above : n ≤ rank r = at-highest h n t r (top-is h n t e) f in
+    let below : rank r ≤ n = has-all (λ s. matches s.matching h ≡ true → rank s ≤ n) t r high i m in
+    eq-eqb (rank r) n (omega arith)))
 
 pub places-win : (h : Header) (n : ℕ) (t : List Rule) → InOrder t → top_rank h t ≡ Some n → places (is_at_rank h n) t ≡ places (wins t h) t
 places-win h n t o e = places-same (is_at_rank h n) (wins t h) 0 t (all-has (λ r. is_at_rank h n r ≡ wins t h r) t (wins-at h n t o e))

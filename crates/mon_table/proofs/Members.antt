@@ -92,13 +92,13 @@ one-rule (x ∷ t) r s o i j e =
     let same : identity_of r ≡ identity_of s = same-is (identity_of r) (identity_of s) e in
     ⊎_elim
     (λ (f : r ≡ x). ⊎_elim
-      (λ (g : s ≡ x). f ∙ sym g)
-      (λ k. absurd (after-itself x s (sym (ap identity_of f) ∙ same) (has-all (λ y. comes_before (identity_of x) (identity_of y) ≡ true) t s o.0 k)))
-      j)
+    (λ (g : s ≡ x). f ∙ sym g)
+    (λ k. absurd (after-itself x s (sym (ap identity_of f) ∙ same) (has-all (λ y. comes_before (identity_of x) (identity_of y) ≡ true) t s o.0 k)))
+    j)
     (λ k. ⊎_elim
-      (λ (g : s ≡ x). absurd (after-itself x r (sym (ap identity_of g) ∙ sym same) (has-all (λ y. comes_before (identity_of x) (identity_of y) ≡ true) t r o.0 k)))
-      (λ l. one-rule t r s o.1 k l e)
-      j)
+    (λ (g : s ≡ x). absurd (after-itself x r (sym (ap identity_of g) ∙ sym same) (has-all (λ y. comes_before (identity_of x) (identity_of y) ≡ true) t r o.0 k)))
+    (λ l. one-rule t r s o.1 k l e)
+    j)
     i
 
 tail-has : (x z : Rule) (t u : List Rule) → AllByRecursion (λ y. comes_before (identity_of x) (identity_of y) ≡ true) t → Has t z → Has (x ∷ u) z → Has u z
@@ -112,8 +112,8 @@ one-list (x ∷ xs) [] a b f g = absurd (f x (inl refl))
 one-list (x ∷ xs) (y ∷ ys) a b f g =
     let same : x ≡ y = ⊎_elim (λ (e : x ≡ y). e)
     (λ i. ⊎_elim (λ (e : y ≡ x). sym e) (λ j. absurd (never-both x y
-      (has-all (λ z. comes_before (identity_of x) (identity_of z) ≡ true) xs y a.0 j)
-      (has-all (λ z. comes_before (identity_of y) (identity_of z) ≡ true) ys x b.0 i))) (g y (inl refl)))
+    (has-all (λ z. comes_before (identity_of x) (identity_of z) ≡ true) xs y a.0 j)
+    (has-all (λ z. comes_before (identity_of y) (identity_of z) ≡ true) ys x b.0 i))) (g y (inl refl)))
     (f x (inl refl)) in
     let after_x : AllByRecursion (λ z. comes_before (identity_of x) (identity_of z) ≡ true) ys = subst (λ (w : Rule). AllByRecursion (λ z. comes_before (identity_of w) (identity_of z) ≡ true) ys) (sym same) b.0 in
     let rest : xs ≡ ys = one-list xs ys a.1 b.1
@@ -144,7 +144,7 @@ pub places-shown : (test : Rule → Bool) (t : List Rule) (d : Rule) → map (λ
 places-shown test [] d = refl
 places-shown test (r ∷ t) d =
     let rest : map (λ k. get_or (r ∷ t) k d) (places_from 1 test t) ≡ filter test t =
-        ap (map (λ k. get_or (r ∷ t) k d)) (places-further 0 test t) ∙ (map-further r d t (places test t) ∙ places-shown test t d) in
+    ap (map (λ k. get_or (r ∷ t) k d)) (places-further 0 test t) ∙ (map-further r d t (places test t) ∙ places-shown test t d) in
     elim (test r) as (λ b. map (λ k. get_or (r ∷ t) k d) (cond b (0 ∷ places_from 1 test t) (places_from 1 test t)) ≡ cond b (r ∷ filter test t) (filter test t)) [
       | true ↦ ap (λ (rs : List Rule). r ∷ rs) rest
       | false ↦ rest
@@ -158,7 +158,7 @@ pub places-within : (test : Rule → Bool) (t : List Rule) → AllByRecursion (�
 places-within test [] = tt
 places-within test (r ∷ t) =
     let rest : AllByRecursion (λ k. k < suc (length t)) (places_from 1 test t) =
-        subst (AllByRecursion (λ k. k < suc (length t))) (sym (places-further 0 test t)) (all-further (length t) (places test t) (places-within test t)) in
+    subst (AllByRecursion (λ k. k < suc (length t))) (sym (places-further 0 test t)) (all-further (length t) (places test t) (places-within test t)) in
     elim (test r) as (λ b. AllByRecursion (λ k. k < suc (length t)) (cond b (0 ∷ places_from 1 test t) (places_from 1 test t))) [
       | true ↦ (omega arith, rest)
       | false ↦ rest

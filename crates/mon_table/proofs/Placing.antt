@@ -92,7 +92,7 @@ pub found-set : (r : Rule) (t : List Rule) → InOrder t → stands_at (identity
 found-set r [] o s = absurd (false≢true s)
 found-set r (x ∷ t) o s =
     elim (comes_before (identity_of x) (identity_of r)) as (λ b. comes_before (identity_of x) (identity_of r) ≡ b → stands_at (identity_of r) (cond b (suc (place_of (identity_of r) t)) 0) (x ∷ t) ≡ true
-        → set (x ∷ t) (cond b (suc (place_of (identity_of r) t)) 0) r ≡ with_rule r (x ∷ t)) [
+    → set (x ∷ t) (cond b (suc (place_of (identity_of r) t)) 0) r ≡ with_rule r (x ∷ t)) [
       | true ↦ λ e h. rw (before-other (identity_of x) (identity_of r) e, e) (ap (λ (u : List Rule). x ∷ u) (found-set r t o.1 h))
       | false ↦ λ e h.
           let b : Behind (identity_of r) t = behind-found (identity_of r) x t o h in
@@ -103,7 +103,7 @@ pub found-remove : (i : Identity) (t : List Rule) → InOrder t → stands_at i 
 found-remove i [] o s = absurd (false≢true s)
 found-remove i (x ∷ t) o s =
     elim (comes_before (identity_of x) i) as (λ b. comes_before (identity_of x) i ≡ b → stands_at i (cond b (suc (place_of i t)) 0) (x ∷ t) ≡ true
-        → remove (x ∷ t) (cond b (suc (place_of i t)) 0) ≡ without i (x ∷ t)) [
+    → remove (x ∷ t) (cond b (suc (place_of i t)) 0) ≡ without i (x ∷ t)) [
       | true ↦ λ e h. rw (before-other (identity_of x) i e) (ap (λ (u : List Rule). x ∷ u) (found-remove i t o.1 h))
       | false ↦ λ e h. rw (h, without-behind i t (behind-found i x t o h)) refl
     ] refl s
@@ -112,7 +112,7 @@ pub found-rule : (i : Identity) (t : List Rule) (d : Rule) → InOrder t → sta
 found-rule i [] d o s = absurd (false≢true s)
 found-rule i (x ∷ t) d o s =
     elim (comes_before (identity_of x) i) as (λ b. comes_before (identity_of x) i ≡ b → stands_at i (cond b (suc (place_of i t)) 0) (x ∷ t) ≡ true
-        → rule_of i (x ∷ t) ≡ Some (get_or (x ∷ t) (cond b (suc (place_of i t)) 0) d)) [
+    → rule_of i (x ∷ t) ≡ Some (get_or (x ∷ t) (cond b (suc (place_of i t)) 0) d)) [
       | true ↦ λ e h. rw (before-other (identity_of x) i e) (found-rule i t d o.1 h)
       | false ↦ λ e h. rw h refl
     ] refl s
@@ -122,7 +122,7 @@ found-place : (i : Identity) (t : List Rule) → InOrder t → stands_at i (plac
 found-place i [] o s = absurd (false≢true s)
 found-place i (x ∷ t) o s =
     elim (comes_before (identity_of x) i) as (λ b. comes_before (identity_of x) i ≡ b → stands_at i (cond b (suc (place_of i t)) 0) (x ∷ t) ≡ true
-        → (position_or_len (λ r. same_identity (identity_of r) i) (x ∷ t) ≡ cond b (suc (place_of i t)) 0) × (cond b (suc (place_of i t)) 0 < suc (length t))) [
+    → (position_or_len (λ r. same_identity (identity_of r) i) (x ∷ t) ≡ cond b (suc (place_of i t)) 0) × (cond b (suc (place_of i t)) 0 < suc (length t))) [
       | true ↦ λ e h. let f = found-place i t o.1 h in rw (before-other (identity_of x) i e) (omega arith, omega arith)
       | false ↦ λ e h. rw h (refl, omega arith)
     ] refl s
@@ -155,7 +155,7 @@ module _ (i : Identity) (m : IsNormal i.matching) where
   absent-length [] n o s = refl
   absent-length (x ∷ t) n o s =
       elim (comes_before (identity_of x) i) as (λ b. comes_before (identity_of x) i ≡ b → stands_at i (cond b (suc (place_of i t)) 0) (x ∷ t) ≡ false
-          → position_or_len (λ r. same_identity (identity_of r) i) (x ∷ t) ≡ suc (length t)) [
+      → position_or_len (λ r. same_identity (identity_of r) i) (x ∷ t) ≡ suc (length t)) [
         | true ↦ λ e h. let f = absent-length t n.1 o.1 h in rw (before-other (identity_of x) i e) (omega arith)
         | false ↦ λ e h. length-behind i (x ∷ t) (behind-absent i x t m n o e h)
       ] refl s
@@ -169,7 +169,7 @@ pub absent-insert : (r : Rule) (t : List Rule) → IsNormal r.matching → AllNo
 absent-insert r [] m n o s = refl
 absent-insert r (x ∷ t) m n o s =
     elim (comes_before (identity_of x) (identity_of r)) as (λ b. comes_before (identity_of x) (identity_of r) ≡ b → stands_at (identity_of r) (cond b (suc (place_of (identity_of r) t)) 0) (x ∷ t) ≡ false
-        → insert (x ∷ t) (cond b (suc (place_of (identity_of r) t)) 0) r ≡ with_rule r (x ∷ t)) [
+    → insert (x ∷ t) (cond b (suc (place_of (identity_of r) t)) 0) r ≡ with_rule r (x ∷ t)) [
       | true ↦ λ e h. rw (before-other (identity_of x) (identity_of r) e, e) (ap (λ (u : List Rule). x ∷ u) (absent-insert r t m n.1 o.1 h))
       | false ↦ λ e h.
           let b : Behind (identity_of r) (x ∷ t) = behind-absent (identity_of r) x t m n o e h in

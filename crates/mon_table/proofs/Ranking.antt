@@ -147,8 +147,8 @@ unfolding comes_before
 comes_before-neither a b p q e f =
     let r : a.rank ≡ b.rank = step-rank a.rank b.rank (match_before a.matching b.matching) (match_before b.matching a.matching) e f in
     let m : a.matching ≡ b.matching = before-neither a.matching b.matching p q
-        (step-match a.rank b.rank (match_before a.matching b.matching) r e)
-        (step-match b.rank a.rank (match_before b.matching a.matching) (sym r) f) in
+    (step-match a.rank b.rank (match_before a.matching b.matching) r e)
+    (step-match b.rank a.rank (match_before b.matching a.matching) (sym r) f) in
     let all : (let x : Identity = record { rank = a.rank; matching = a.matching } in x) ≡ record { rank = b.rank; matching = b.matching } = cc in
     all
 

@@ -49,9 +49,9 @@ undone-there t (Put s (Some o)) table right r i =
     ⊎_elim
     (λ (e : r ≡ o). subst (Has t) (sym e) found.0)
     (λ l. ⊎_elim
-      (λ (e : r ≡ s). absurd (not-itself r s (subst (λ (i : Identity). same_identity (identity_of r) i ≡ false) (same-is (identity_of o) (identity_of s) found.1) l.1) e))
-      (λ k. k.0)
-      (after-members t (Put s (Some o)) r l.0))
+    (λ (e : r ≡ s). absurd (not-itself r s (subst (λ (i : Identity). same_identity (identity_of r) i ≡ false) (same-is (identity_of o) (identity_of s) found.1) l.1) e))
+    (λ k. k.0)
+    (after-members t (Put s (Some o)) r l.0))
     (after-members (after t (Put s (Some o))) (Put o (Some s)) r i)
 undone-there t (Cut s) table right r i =
     let found = some-there (identity_of s) t s right in
@@ -68,9 +68,9 @@ undone-back t (Put s (Some o)) table right r i =
     let found = some-there (identity_of s) t o right in
     ⊎_elim
     (λ same. members-after (after t (Put s (Some o))) (Put o (Some s)) r
-      (inl (one-rule t r o table.order i found.0 (along r s o same (same-turned (identity_of o) (identity_of s) found.1)))))
+    (inl (one-rule t r o table.order i found.0 (along r s o same (same-turned (identity_of o) (identity_of s) found.1)))))
     (λ other. members-after (after t (Put s (Some o))) (Put o (Some s)) r
-      (inr (members-after t (Put s (Some o)) r (inr (i, other)), apart r o s other found.1)))
+    (inr (members-after t (Put s (Some o)) r (inr (i, other)), apart r o s other found.1)))
     (cases_Bool (same_identity (identity_of r) (identity_of s)))
 undone-back t (Cut s) table right r i =
     let found = some-there (identity_of s) t s right in

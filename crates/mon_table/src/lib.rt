@@ -15,6 +15,8 @@ mod edit;
 pub mod laws;
 mod rule;
 mod table;
+#[cfg(test)]
+mod tests;
 
 pub use edit::Edit;
 pub use mon_header::OutOfMemory;

@@ -107,15 +107,15 @@ impl Table {
 
     /// The places of the rules whose match is covered, rising.
     pub fn named(&self, alloc: Global, m: &Match) -> Result<Vec<u32>, OutOfMemory>
-        ensures { IfOk result (λ found. found.items ≡ places (is_named m.now) self.now) }
+        ensures { IfOk result (λ named. named.items ≡ places (is_named m.now) self.now) }
     {
-        let mut found = Vec::new(alloc);
+        let mut named = Vec::new(alloc);
         for (place, rule) in self.rules.iter().enumerate() {
             if covers(m, &rule.matching) {
-                found.push(place as u32)?;
+                named.push(place as u32)?;
             }
         }
-        Ok(found)
+        Ok(named)
     }
 
     /// The places of the rules that win for a header, rising: those that match it and whose effective priority no rule
@@ -165,6 +165,7 @@ fn search(rules: &[Rule], m: &Match, rank: u32) -> usize
     ensures within { result ≤ length rules.now }
     ensures normal { IsNormal m.now }
 {
+    // Only a look at the match shows that it is in its normal form, by which other identities stand apart.
     let _ = m.wild();
     rules.partition_point(|rule| rule.comes_before(m, rank))
 }

@@ -9,4 +9,4 @@ returns-clause-value c =
     let t = c.args.rules.now in
     let i : Identity = record { rank = c.args.rank; matching = c.args.m.now } in
     place-is i t _ c.partition_point.ensures.bound
-        (IsPartitionPoint-from_clause (λ r. comes_before (identity_of r) i) t _ c.partition_point.ensures.partitioned (is-partitioned i t c.requires) (λ a r f k. search rules))
+    (IsPartitionPoint-from_clause (λ r. comes_before (identity_of r) i) t _ c.partition_point.ensures.partitioned (is-partitioned i t c.requires) (λ a r f k. search rules))

@@ -10,13 +10,13 @@ returns-then-stands_at c =
     let t = c.args.self.now in
     let table : IsTable t = subst IsTable c.self.view_is c.self.invariant.0 in
     place-found (identity c.args.m.now c.args.priority) t c.search-place.result table
-        (searched c.effective-rank.result c.args.m.now c.args.priority t _ _ _ _ true c.effective-rank.ensures (c.deref.ensures.value ∙ c.self.view_is) (c.deref-2.ensures.value ∙ c.self.view_is)
-        c.search-place.ensures.value c.stands_at.ensures.value c.if-stands_at.true)
+    (searched c.effective-rank.result c.args.m.now c.args.priority t _ _ _ _ true c.effective-rank.ensures (c.deref.ensures.value ∙ c.self.view_is) (c.deref-2.ensures.value ∙ c.self.view_is)
+    c.search-place.ensures.value c.stands_at.ensures.value c.if-stands_at.true)
 
 pub returns : goal.returns
 returns c =
     let t = c.args.self.now in
     let table : IsTable t = subst IsTable c.self.view_is c.self.invariant.0 in
     place-none (identity c.args.m.now c.args.priority) t c.search-place.result table c.search-place.ensures.normal
-        (searched c.effective-rank.result c.args.m.now c.args.priority t _ _ _ _ false c.effective-rank.ensures (c.deref.ensures.value ∙ c.self.view_is) (c.deref-2.ensures.value ∙ c.self.view_is)
-        c.search-place.ensures.value c.stands_at.ensures.value c.if-stands_at.false)
+    (searched c.effective-rank.result c.args.m.now c.args.priority t _ _ _ _ false c.effective-rank.ensures (c.deref.ensures.value ∙ c.self.view_is) (c.deref-2.ensures.value ∙ c.self.view_is)
+    c.search-place.ensures.value c.stands_at.ensures.value c.if-stands_at.false)
