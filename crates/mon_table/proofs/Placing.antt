@@ -1,16 +1,15 @@
 -- Where a rule stands in a table, and what an edit does there.
-use Rattle.std.proofs.Common.{◌≡◌, ℕ, zero, suc, ◌+◌, ◌<◌, ◌≤◌, Bool, true, false, not, cond, List, [], ◌∷◌, ◌++◌, length, get_or, set, take, drop, Option, Some, None, refl, sym, ap, subst, ◌∙◌, arith, inl, inr, ⊎_elim}
-use Rattle.std.specs.List.{filter, find, insert, remove, position, position_or_len, prefix_len, AllByRecursion}
+use Rattle.std.proofs.Common.{◌≡◌, ℕ, zero, suc, ◌<◌, ◌≤◌, Bool, true, false, cond, List, [], ◌∷◌, length, get_or, set, Some, None, refl, sym, ap, subst, ◌∙◌, arith}
+use Rattle.std.specs.List.{insert, remove, position, position_or_len, AllByRecursion}
 use Rattle.std.specs.List.Sorted.{IsPartitionedBy, IsPartitionPoint}
-use Rattle.std.specs.Prelude.{nat_lt}
 use Rattle.std.proofs.lemmas.List.Elements.{All-from_recursion}
-use Rattle.std.proofs.lemmas.Bool.{cases_Bool, false≢true, lt-ltb, le-ltb}
+use Rattle.std.proofs.lemmas.Bool.{false≢true, lt-ltb, le-ltb}
 use Rattle.mon_header.specs.Matching.{Matching, IsNormal, effective}
 use Rattle.mon_table.specs.declared.rule.Rule.{Rule}
 use Rattle.mon_table.specs.Rules.{Identity, identity, identity_of, same_identity, comes_before}
 use Rattle.mon_table.specs.Tables.{InOrder, AllNormal, IsTable, rule_of, without, placed, with_rule}
 use Rattle.mon_table.specs.Places.{place_of, stands_at}
-use Rattle.mon_table.proofs.Ranking.{same-is, same-self, other-turned, comes_before-more, before-other, before-once, other-behind}
+use Rattle.mon_table.proofs.Ranking.{same-is, other-turned, comes_before-more, before-other, before-once, other-behind}
 
 -- a search by halves may ask which rules stand before an identity
 pub is-partitioned : (i : Identity) (t : List Rule) → InOrder t → IsPartitionedBy (λ r. comes_before (identity_of r) i) t

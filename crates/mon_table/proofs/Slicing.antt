@@ -1,13 +1,13 @@
 -- The rules that overlap a match say of the headers that it takes all that the table says.
-use Rattle.std.proofs.Common.{◌≡◌, Bool, true, false, not, cond, ◌&&◌, ◌||◌, List, [], ◌∷◌, refl, sym, ap, ◌∙◌, ⊎_elim}
-use Rattle.std.specs.Prelude.{◌==◌, nat_le}
-use Rattle.std.specs.List.{filter, list_any, list_all}
+use Rattle.std.proofs.Common.{◌≡◌, Bool, true, false, not, cond, ◌||◌, List, [], ◌∷◌, refl, sym, ap, ◌∙◌, ⊎_elim}
+use Rattle.std.specs.Prelude.{nat_le}
+use Rattle.std.specs.List.{list_any}
 use Rattle.std.proofs.lemmas.Bool.{and_parts, and_from, and_right, or_left, cases_Bool, not_from_false}
 use Rattle.mon_header.specs.declared.header.Header.{Header}
 use Rattle.mon_header.specs.Matching.{Matching, matches, overlaps}
 use Rattle.mon_header.proofs.Sharing.{both-taken}
 use Rattle.mon_table.specs.declared.rule.Rule.{Rule}
-use Rattle.mon_table.specs.Rules.{identity_of, rank, same_identity}
+use Rattle.mon_table.specs.Rules.{rank}
 use Rattle.mon_table.specs.Tables.{Has, InOrder, slice, ties, tied}
 use Rattle.mon_table.specs.Winners.{is_highest, wins, winners}
 use Rattle.mon_table.proofs.Keeping.{order-filter}

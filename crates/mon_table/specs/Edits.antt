@@ -1,5 +1,5 @@
 -- Edits of a table, one after the other, and back.
-use Rattle.std.specs.Prelude.{◌≡◌, Bool, nat_lt, if◌then◌else◌, List, [], ◌∷◌, length, Option, Some, None}
+use Rattle.std.specs.Prelude.{◌≡◌, Bool, nat_lt, if◌then◌else◌, List, [], ◌∷◌, length, Some, None}
 use Rattle.mon_table.specs.declared.rule.Rule.{Rule}
 use Rattle.mon_table.specs.declared.edit.Edit.{Edit}
 use Rattle.mon_table.specs.declared.edit.Edit.TheVariants.{Put, Cut}

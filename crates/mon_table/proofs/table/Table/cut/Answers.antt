@@ -1,4 +1,4 @@
-use Rattle.std.proofs.Common.{◌≡◌, ◌+◌, ◌<◌, subst, sym, ◌∙◌, true, false, length, arith}
+use Rattle.std.proofs.Common.{◌≡◌, subst, sym, ◌∙◌, true, false}
 use Rattle.mon_table.specs.Rules.{identity}
 use Rattle.mon_table.specs.Tables.{IsTable, without}
 use Rattle.mon_table.proofs.Placing.{Searched, searched, cut-remove, cut-none, old-found, old-none}

@@ -1,5 +1,4 @@
-use Rattle.std.proofs.Common.{◌≡◌, subst, sym, ◌∙◌, true, false, List}
-use Rattle.mon_table.specs.declared.rule.Rule.{Rule}
+use Rattle.std.proofs.Common.{subst, ◌∙◌, true, false}
 use Rattle.mon_table.specs.Rules.{identity}
 use Rattle.mon_table.specs.Tables.{IsTable}
 use Rattle.mon_table.proofs.Placing.{searched, place-found, place-none}

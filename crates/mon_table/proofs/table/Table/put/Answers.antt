@@ -1,4 +1,4 @@
-use Rattle.std.proofs.Common.{◌≡◌, ◌+◌, ◌<◌, subst, sym, ◌∙◌, true, false, length, set, arith}
+use Rattle.std.proofs.Common.{◌≡◌, subst, sym, ◌∙◌, true, false, set, arith}
 use Rattle.mon_table.specs.Rules.{identity_of}
 use Rattle.mon_table.specs.Tables.{IsTable, with_rule}
 use Rattle.mon_table.proofs.Placing.{Searched, searched, put-set, put-insert, old-found, old-none}

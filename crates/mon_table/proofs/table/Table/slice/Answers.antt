@@ -1,5 +1,4 @@
-use Rattle.std.proofs.Common.{◌≡◌, subst, sym, ap, length, ◌∙◌, arith}
-use Rattle.mon_table.specs.Tables.{IsTable}
+use Rattle.std.proofs.Common.{ap, length, arith}
 use Rattle.mon_table.proofs.Keeping.{slice-end}
 use Rattle.mon_table.proofs.table.Table.slice.Goals as goal
 
