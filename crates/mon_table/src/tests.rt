@@ -1,5 +1,6 @@
 //! Tables whose order and lookups were worked out by hand.
 
+use crate::edit::Edit;
 use crate::rule::Rule;
 use crate::table::Table;
 use mon_header::{Action, Actions, Header, Match, OutOfMemory};
@@ -192,6 +193,7 @@ fn edits_give_what_stood_there(rt: HostRuntime) -> Result<(), Fail> {
         return Err(Fail::new("no rule to cut"));
     };
     assert_eq!(rt; output(&old), 1);
+    assert_eq!(rt; output(Edit::Cut { rule: old }.rule()), 1);
     assert!(rt; table.cut(&to_24(), 100)?.is_none());
     assert_eq!(rt; table.len(), 1);
     Ok(())
