@@ -9,7 +9,8 @@ use Rattle.mon_header.specs.Matching.{Matching, IsNormal, overlaps}
 use Rattle.mon_table.specs.declared.rule.Rule.{Rule}
 use Rattle.mon_table.specs.Rules.{Identity, identity_of, same_identity, comes_before}
 use Rattle.mon_table.specs.Tables.{InOrder, AllNormal, IsTable, without, placed, with_rule, slice}
-use Rattle.mon_table.proofs.Ranking.{comes_before-more, other-behind}
+use Rattle.mon_table.proofs.Identities.{other-behind}
+use Rattle.mon_table.proofs.Placing.{behind-more}
 
 all-filter : (P : Rule → Type 0) (p : Rule → Bool) (t : List Rule) → AllByRecursion P t → AllByRecursion P (filter p t)
 all-filter P p [] a = a
@@ -36,10 +37,6 @@ without-other i (x ∷ t) = ⊎_elim
     (λ e. rw e (without-other i t))
     (λ e. rw e (e, without-other i t))
     (cases_Bool (same_identity (identity_of x) i))
-
-behind-more : (i j : Identity) (t : List Rule) → comes_before i j ≡ true → AllByRecursion (λ s. comes_before j (identity_of s) ≡ true) t → AllByRecursion (λ s. comes_before i (identity_of s) ≡ true) t
-behind-more i j [] e b = tt
-behind-more i j (r ∷ t) e b = (comes_before-more i j (identity_of r) e b.0, behind-more i j t e b.1)
 
 order-placed : (r : Rule) (t : List Rule) → IsNormal r.matching → AllNormal t → AllOther (identity_of r) t → InOrder t → InOrder (placed r t)
 order-placed r [] m n d o = (tt, tt)

@@ -1,4 +1,4 @@
-pub mod Ranking
+pub mod Identities
 pub mod Placing
 pub mod Keeping
 pub mod Listing

@@ -11,7 +11,7 @@ use Rattle.mon_table.specs.Rules.{identity_of, rank, comes_before}
 use Rattle.mon_table.specs.Tables.{Has, InOrder, places_from, places}
 use Rattle.mon_table.specs.Winners.{is_highest, wins}
 use Rattle.mon_table.specs.Places.{top_rank, is_at_rank}
-use Rattle.mon_table.proofs.Ranking.{comes_before-falls}
+use Rattle.mon_table.proofs.Identities.{comes_before-falls}
 
 -- one place more of a loop that lists places
 pub places-push : (test : Rule → Bool) (t : List Rule) (found all : List ℕ) (n : ℕ) (r : Rule) → n < length t → r ≡ get_or t n r → test r ≡ true

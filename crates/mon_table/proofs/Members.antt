@@ -11,7 +11,7 @@ use Rattle.mon_table.specs.Rules.{Identity, identity_of, same_identity, comes_be
 use Rattle.mon_table.specs.Tables.{Has, InOrder, IsTable, without, placed, places_from, places}
 use Rattle.mon_table.specs.Edits.{edited, after}
 use Rattle.mon_table.specs.Laws.{IsPut, IsLeft}
-use Rattle.mon_table.proofs.Ranking.{same-is, same-self, comes_before-self, comes_before-more}
+use Rattle.mon_table.proofs.Identities.{same-is, same-self, comes_before-self, comes_before-more}
 use Rattle.mon_table.proofs.Keeping.{table-with, table-without}
 use Rattle.mon_table.proofs.Listing.{has-all}
 

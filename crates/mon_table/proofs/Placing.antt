@@ -9,7 +9,7 @@ use Rattle.mon_table.specs.declared.rule.Rule.{Rule}
 use Rattle.mon_table.specs.Rules.{Identity, identity, identity_of, same_identity, comes_before}
 use Rattle.mon_table.specs.Tables.{InOrder, AllNormal, IsTable, rule_of, without, placed, with_rule}
 use Rattle.mon_table.specs.Places.{place_of, stands_at}
-use Rattle.mon_table.proofs.Ranking.{same-is, other-turned, comes_before-more, before-other, before-once, other-behind}
+use Rattle.mon_table.proofs.Identities.{same-is, other-turned, comes_before-more, before-other, before-once, other-behind}
 
 -- a search by halves may ask which rules stand before an identity
 pub is-partitioned : (i : Identity) (t : List Rule) → InOrder t → IsPartitionedBy (λ r. comes_before (identity_of r) i) t
@@ -49,7 +49,7 @@ stands-past i (r ∷ t) (suc n) le = stands-past i t n (omega arith)
 abbrev pub Behind : Identity → List Rule → Type 0
 Behind i t = AllByRecursion (λ s. comes_before i (identity_of s) ≡ true) t
 
-behind-more : (i j : Identity) (t : List Rule) → comes_before i j ≡ true → Behind j t → Behind i t
+pub behind-more : (i j : Identity) (t : List Rule) → comes_before i j ≡ true → Behind j t → Behind i t
 behind-more i j [] e b = tt
 behind-more i j (r ∷ t) e b = (comes_before-more i j (identity_of r) e b.0, behind-more i j t e b.1)
 

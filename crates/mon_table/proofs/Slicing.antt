@@ -1,18 +1,20 @@
 -- The rules that overlap a match say of the headers that it takes all that the table says.
-use Rattle.std.proofs.Common.{◌≡◌, Bool, true, false, not, cond, ◌||◌, List, [], ◌∷◌, refl, sym, ap, ◌∙◌, ⊎_elim}
+use Rattle.std.proofs.Common.{◌≡◌, Bool, true, false, not, cond, ◌||◌, List, [], ◌∷◌, refl, sym, ap, ◌∙◌, inl, inr, ⊎_elim}
 use Rattle.std.specs.Prelude.{nat_le}
 use Rattle.std.specs.List.{list_any}
 use Rattle.std.proofs.lemmas.Bool.{and_parts, and_from, and_right, or_left, cases_Bool, not_from_false}
 use Rattle.mon_header.specs.declared.header.Header.{Header}
-use Rattle.mon_header.specs.Matching.{Matching, matches, overlaps}
+use Rattle.mon_header.specs.Matching.{Matching, IsNormal, matches, overlaps}
 use Rattle.mon_header.proofs.Sharing.{both-taken}
 use Rattle.mon_table.specs.declared.rule.Rule.{Rule}
+use Rattle.mon_table.specs.declared.edit.Edit.{Edit}
+use Rattle.mon_table.specs.Edits.{edited, after}
 use Rattle.mon_table.specs.Rules.{rank}
-use Rattle.mon_table.specs.Tables.{Has, InOrder, slice, ties, tied}
+use Rattle.mon_table.specs.Tables.{Has, InOrder, IsTable, slice, ties, tied}
 use Rattle.mon_table.specs.Winners.{is_highest, wins, winners}
-use Rattle.mon_table.proofs.Keeping.{order-filter}
+use Rattle.mon_table.proofs.Keeping.{order-filter, table-filter}
 use Rattle.mon_table.proofs.Listing.{has-list_all, list_all-has}
-use Rattle.mon_table.proofs.Members.{has-filter, filter-has, one-list}
+use Rattle.mon_table.proofs.Members.{has-filter, filter-has, one-list, after-members, members-after, after-table}
 
 -- both tables have the same rules that match the header
 pub record SameAt (h : Header) (t u : List Rule) : Type 0 where
@@ -47,6 +49,21 @@ slice-same h m t y = record {
 
 pub slice-winners : (t : List Rule) (m : Matching) (h : Header) → InOrder t → matches m h ≡ true → winners (slice m t) h ≡ winners t h
 slice-winners t m h o y = winners-same h (slice m t) t (order-filter (λ r. overlaps m r.matching) t o) o (slice-same h m t y)
+
+-- and still do after one edit of both
+after-there : (h : Header) (t u : List Rule) (x : Edit) → SameAt h t u → (r : Rule) → matches r.matching h ≡ true → Has (after t x) r → Has (after u x) r
+after-there h t u x same r m i = members-after u x r (⊎_elim (λ p. inl p) (λ l. inr (same.there r m l.0, l.1)) (after-members t x r i))
+
+after-same : (h : Header) (t u : List Rule) (x : Edit) → SameAt h t u → SameAt h (after t x) (after u x)
+after-same h t u x same = record { there = after-there h t u x same; back = after-there h u t x (same-turned h t u same) }
+
+pub slice-edited : (t : List Rule) (m : Matching) (h : Header) (x : Edit) → IsTable t → IsNormal (edited x).matching → matches m h ≡ true
+    → winners (after (slice m t) x) h ≡ winners (after t x) h
+slice-edited t m h x table n y =
+    let part : IsTable (slice m t) = table-filter (λ r. overlaps m r.matching) t table in
+    let one = after-table (slice m t) x part n in
+    let other = after-table t x table n in
+    winners-same h (after (slice m t) x) (after t x) one.order other.order (after-same h (slice m t) t x (slice-same h m t y))
 
 no-tie : (r s : Rule) → overlaps r.matching s.matching ≡ false → ties r s ≡ false
 unfolding ties

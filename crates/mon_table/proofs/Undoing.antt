@@ -8,7 +8,7 @@ use Rattle.mon_table.specs.declared.edit.Edit.TheVariants.{Put, Cut}
 use Rattle.mon_table.specs.Rules.{Identity, identity_of, same_identity}
 use Rattle.mon_table.specs.Tables.{Has, IsTable, rule_of}
 use Rattle.mon_table.specs.Edits.{edited, after, inverse, undone, IsRight}
-use Rattle.mon_table.proofs.Ranking.{same-is, same-self, same-turned}
+use Rattle.mon_table.proofs.Identities.{same-is, same-self, same-turned}
 use Rattle.mon_table.proofs.Listing.{has-all}
 use Rattle.mon_table.proofs.Members.{after-members, members-after, after-table, one-rule, one-list}
 

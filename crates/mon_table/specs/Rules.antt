@@ -39,6 +39,7 @@ same_header a b =
     && ((a.tp_src == b.tp_src)
     && (a.tp_dst == b.tp_dst)))))))))))
 
+-- the matches are equal
 unfoldable pub same_match : Matching → Matching → Bool
 same_match a b = same_wild a.wild b.wild && same_header a.fields b.fields
 
@@ -55,9 +56,11 @@ identity m priority = record { rank = effective m priority; matching = m }
 abbrev pub rank : Rule → ℕ
 rank r = effective r.matching r.priority
 
+-- the identity of a rule
 abbrev pub identity_of : Rule → Identity
 identity_of r = identity r.matching r.priority
 
+-- the identities are equal
 unfoldable pub same_identity : Identity → Identity → Bool
 same_identity a b = (a.rank == b.rank) && same_match a.matching b.matching
 

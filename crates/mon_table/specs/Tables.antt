@@ -46,10 +46,11 @@ abbrev pub places_from : ℕ → (Rule → Bool) → List Rule → List ℕ
 places_from n test [] = []
 places_from n test (r ∷ t) = if test r then n ∷ places_from (suc n) test t else places_from (suc n) test t
 
+-- the places of the rules that pass a test, rising
 abbrev pub places : (Rule → Bool) → List Rule → List ℕ
 places test t = places_from 0 test t
 
--- the rule's match is covered by the match
+-- the match names the rule: it covers the rule's match
 abbrev pub is_named : Matching → Rule → Bool
 is_named m r = covers m r.matching
 

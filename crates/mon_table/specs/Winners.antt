@@ -14,5 +14,6 @@ is_highest t h r = list_all (λ s. not (matches s.matching h) || nat_le (rank s)
 abbrev pub wins : List Rule → Header → Rule → Bool
 wins t h r = matches r.matching h && is_highest t h r
 
+-- the rules that win for the header, in table order; where there is none the packet misses
 abbrev pub winners : List Rule → Header → List Rule
 winners t h = filter (wins t h) t

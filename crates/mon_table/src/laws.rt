@@ -44,9 +44,10 @@ pub fn places_show_the_rules()
     ensures shown { (test : Rule → Bool) (t : List Rule) (d : Rule) → map (λ k. slice_index_or t k d) (places test t) ≡ filter test t }
 {}
 
-/// The rules that overlap a match say all that the table says: who wins for a header that the match takes, and whether
-/// a rule with that match is tied.
+/// The rules that overlap a match say all that the table says: who wins for a header that the match takes, who wins
+/// for it after an edit of both, and whether a rule with that match is tied.
 pub fn a_slice_says_the_same()
     ensures winners { (t : List Rule) (m : Matching) (h : Header) → InOrder t → IsTrue (matches m h) → winners (slice m t) h ≡ winners t h }
+    ensures edited { (t : List Rule) (m : Matching) (h : Header) (x : Edit) → IsTable t → IsNormal (edited x).matching → IsTrue (matches m h) → winners (after (slice m t) x) h ≡ winners (after t x) h }
     ensures tied { (t : List Rule) (r : Rule) → tied (slice r.matching t) r ≡ tied t r }
 {}

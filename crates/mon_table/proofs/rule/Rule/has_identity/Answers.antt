@@ -1,5 +1,5 @@
 use Rattle.std.proofs.Common.{sym, ◌∙◌}
-use Rattle.mon_table.proofs.Ranking.{same_identity-from}
+use Rattle.mon_table.proofs.Identities.{same_identity-from}
 use Rattle.mon_table.proofs.rule.Rule.has_identity.Goals as goal
 
 pub returns-then-rank : goal.returns-then-rank
