@@ -6,3 +6,7 @@ pub mod Twelve
 pub mod Agreeing
 pub mod Sharing
 pub mod Covering
+pub mod Bits
+pub mod Spelling
+pub mod Placing
+pub mod Classing
