@@ -4,7 +4,7 @@ use Rattle.std.specs.Prelude.{nat_le, max}
 use Rattle.std.proofs.lemmas.Bool.{eqb-true, eq-eqb}
 use Rattle.std.proofs.lemmas.Bool.Decides.{leb_tells}
 use Rattle.mon_header.specs.declared.header.Header.{Header}
-use Rattle.mon_header.specs.Matching.{Matching, InRange, IsNormal, agree_above, takes, overlaps_field, overlaps_address, overlaps}
+use Rattle.mon_header.specs.Matching.{Matching, InRange, IsNormal, agree_above, takes, overlaps_field, overlaps_address, matches, overlaps}
 use Rattle.mon_header.specs.Laws.{ShareHeader}
 use Rattle.mon_header.proofs.Agreeing.{agree-up}
 use Rattle.mon_header.proofs.Twelve.{Taken, taken, taken-whole, Overlapped, overlapped, overlapped-whole}
@@ -163,3 +163,7 @@ from-shared a b s = overlapped-whole a b (taken-both a b s.0 (taken a s.0 s.2) (
 
 pub overlap-law : (a b : Matching) → IsNormal a → IsNormal b → (overlaps a b ≡ true) ↔ ShareHeader a b
 overlap-law a b p q = (to-shared a b p.range q.range, from-shared a b)
+
+-- what two matches take, they overlap in, be it within range or not
+pub both-taken : (a b : Matching) (h : Header) → matches a h ≡ true → matches b h ≡ true → overlaps a b ≡ true
+both-taken a b h p q = overlapped-whole a b (taken-both a b h (taken a h p) (taken b h q))
