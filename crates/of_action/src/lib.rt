@@ -3,7 +3,9 @@
 
 mod fault;
 mod reading;
+mod writing;
 
 pub use fault::ActionFault;
 pub use mon_list::OutOfMemory;
 pub use reading::read_actions;
+pub use writing::{write_actions, written_is_read};
