@@ -2,8 +2,8 @@
 use Rattle.std.proofs.Common.{◌≡◌, ℕ, zero, suc, ◌+◌, ◌-◌, ◌<◌, ◌≤◌, Bool, true, false, cond, List, [], ◌∷◌, ◌++◌, length, take, drop, Result, Ok, Err, refl, sym, ap, ◌∙◌, append_assoc, arith}
 use Rattle.std.proofs.lemmas.List.{append-nil, length-drop, drop-drop, drop_all}
 use Rattle.mon_header.specs.declared.action.Action.{Action}
-use Rattle.of_action.specs.Reading.{len_of, is_faulty, action_of, before, actions_from, actions_of}
-use Rattle.of_action.proofs.Front.{Front, front}
+use Rattle.of_action.specs.Reading.{len_of, is_faulty, action_of, before, actions_from}
+use Rattle.of_action.proofs.Front.{front}
 
 -- actions that were read, before those that are still to be read
 abbrev pub onto : List Action → Result (List Action) ℕ → Result (List Action) ℕ
@@ -32,9 +32,9 @@ first_read place (byte ∷ bytes) e =
     let back : suc (len - 1) ≡ len = omega (arith, f.least) in
     let forth : suc place + (len - 1) ≡ place + len = omega (arith, f.least) in
     let rest : actions_from (suc place) (len - 1) bytes ≡ actions_from (place + len) 0 (drop len (byte ∷ bytes)) =
-      passed_over (suc place) (len - 1) bytes (omega (arith, f.least, f.within))
-      ∙ ap (λ (p : ℕ). actions_from p 0 (drop (len - 1) bytes)) forth
-      ∙ ap (λ (n : ℕ). actions_from (place + len) 0 (drop n (byte ∷ bytes))) back in
+    passed_over (suc place) (len - 1) bytes (omega (arith, f.least, f.within))
+    ∙ ap (λ (p : ℕ). actions_from p 0 (drop (len - 1) bytes)) forth
+    ∙ ap (λ (n : ℕ). actions_from (place + len) 0 (drop n (byte ∷ bytes))) back in
     ap (λ (faulty : Bool). cond faulty (Err place) (before (action_of (take len (byte ∷ bytes))) (actions_from (suc place) (len - 1) bytes))) e
     ∙ ap (before (action_of (take len (byte ∷ bytes)))) rest
 
@@ -45,7 +45,7 @@ pub goes_on : (actions new : List Action) (action : Action) (place len : ℕ) (r
 goes_on actions new action place len rest bytes read left faulty n a pushed told =
     let later : drop (place + len) bytes ≡ drop len rest = sym (ap (drop len) left ∙ drop-drop len place bytes) in
     let first : actions_from place 0 (drop place bytes) ≡ before action (actions_from (place + len) 0 (drop len rest)) =
-      rw (← left, a, n) (first_read place rest faulty) in
+    rw (← left, a, n) (first_read place rest faulty) in
     ap (λ (all : List Action). onto all (actions_from (place + len) 0 (drop (place + len) bytes))) pushed
     ∙ sym (onto-before actions action (actions_from (place + len) 0 (drop (place + len) bytes)))
     ∙ ap (λ (bs : List ℕ). onto actions (before action (actions_from (place + len) 0 bs))) later

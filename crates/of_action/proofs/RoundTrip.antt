@@ -1,5 +1,5 @@
 -- What is spelled is read back.
-use Rattle.std.proofs.Common.{◌≡◌, ℕ, zero, suc, ◌+◌, ◌*◌, ◌%◌, ◌^◌, ◌<◌, ◌≤◌, Bool, true, false, not, ◌||◌, List, [], ◌∷◌, ◌++◌, length, take, drop, get_or, Result, Ok, Err, refl, sym, ap, ◌∙◌, arith}
+use Rattle.std.proofs.Common.{◌≡◌, ℕ, ◌+◌, ◌%◌, ◌≤◌, true, false, not, ◌||◌, List, [], ◌∷◌, ◌++◌, length, take, drop, get_or, Ok, refl, sym, ap, ◌∙◌, arith}
 use Rattle.std.specs.Prelude.{nat_lt, ◌==◌}
 use Rattle.std.proofs.lemmas.Bool.{lt-ltb, le-ltb, ne_eqb}
 use Rattle.std.proofs.lemmas.List.{take_at, drop_at, length-append, get_or-drop}
@@ -37,7 +37,7 @@ whole_not_faulty bytes rest p =
     let len : len_of (bytes ++ rest) ≡ length bytes = number_at-front 2 2 bytes rest (omega (arith, p.header)) ∙ p.exact in
     let kind : kind_of (bytes ++ rest) ≡ kind_of bytes = number_at-front 2 0 bytes rest (omega (arith, p.header)) in
     not_faulty (length (bytes ++ rest)) (len_of (bytes ++ rest)) (kind_of (bytes ++ rest)) (rw len p.header) (rw len (omega (arith, all))) (rw len p.whole)
-      (rw (kind, len) p.right)
+    (rw (kind, len) p.right)
 
 -- the unknown actions are those whose type stands above the table
 unknown_kind : (bytes : List ℕ) → IsRawAction bytes → nat_lt 11 (kind_of bytes) ≡ true

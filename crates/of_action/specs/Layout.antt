@@ -1,5 +1,5 @@
 -- The bytes of actions: type, length, fields and pads (OpenFlow 1.0.0, flow action structures).
-use Rattle.std.specs.Prelude.{ℕ, List, [], ◌∷◌, ◌++◌, replicate}
+use Rattle.std.specs.Prelude.{ℕ, List, ◌∷◌, ◌++◌, replicate}
 use Rattle.std.specs.List.{flat_map}
 use Rattle.byteorder.specs.Endian.{big_bytes}
 use Rattle.mon_header.specs.declared.action.Action.{Action}

@@ -9,3 +9,6 @@ pub use fault::ActionFault;
 pub use mon_list::OutOfMemory;
 pub use reading::read_actions;
 pub use writing::{write_actions, written_is_read};
+
+#[cfg(test)]
+mod tests;

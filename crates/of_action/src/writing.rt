@@ -93,5 +93,4 @@ pub fn write_actions(alloc: Global, actions: &Actions) -> Result<Vec<u8>, OutOfM
 /// What is written is read back: the same actions, in the same order.
 pub fn written_is_read()
     ensures { (actions : List Action) → AllFit actions → actions_of (spelled actions) ≡ Ok actions }
-{
-}
+{}

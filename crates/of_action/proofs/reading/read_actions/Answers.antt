@@ -1,4 +1,4 @@
-use Rattle.std.proofs.Common.{◌≡◌, ◌+◌, ◌-◌, ◌<◌, ◌≤◌, ℕ, List, length, take, drop, sym, ◌∙◌, arith}
+use Rattle.std.proofs.Common.{◌-◌, length, take, drop, sym, ◌∙◌, arith}
 use Rattle.std.proofs.lemmas.List.{take_rest, length-take}
 use Rattle.of_action.proofs.Front.{front}
 use Rattle.of_action.proofs.Loop.{goes_on}
@@ -28,6 +28,6 @@ loop-place-preserved c =
     record {
       within = omega (arith, f.within, c.from-len.ensures ∙ c.u16_at.ensures);
       told = goes_on c.loop-place.actions c.push.new.self c.in_ok-action.action c.loop-place.place c.from-len.result _ bytes _
-        (take_rest bytes c.loop-place.place) (sym c.if-is_faulty.ensures) (c.from-len.ensures ∙ c.u16_at.ensures) c.in_ok-action.ensures.value c.in_ok-push.ensures.pushed
-        c.loop-place.invariant.told;
+          (take_rest bytes c.loop-place.place) (sym c.if-is_faulty.ensures) (c.from-len.ensures ∙ c.u16_at.ensures) c.in_ok-action.ensures.value c.in_ok-push.ensures.pushed
+          c.loop-place.invariant.told;
     }
