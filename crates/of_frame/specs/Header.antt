@@ -1,0 +1,22 @@
+-- The eight bytes that begin a frame (OpenFlow 1.0.0, header): version, type, length, xid.
+use Rattle.std.specs.Prelude.{◌≡◌, ℕ, ◌+◌, ◌*◌, ◌≤◌, List, ◌∷◌, ◌++◌, length, drop, slice_index}
+use Rattle.byteorder.specs.Endian.{big_number, big_bytes}
+
+-- the length that a header names
+abbrev pub length_field : List ℕ → ℕ
+length_field bytes = 256 * slice_index bytes 2 + slice_index bytes 3
+
+-- eight bytes or more, as many as the header says
+pub record IsFrame (bytes : List ℕ) : Type 0 where
+  pub header : 8 ≤ length bytes
+  pub exact : length bytes ≡ length_field bytes
+
+abbrev pub kind_of : List ℕ → ℕ
+kind_of bytes = slice_index bytes 1
+
+abbrev pub xid_of : List ℕ → ℕ
+xid_of bytes = big_number 4 (drop 4 bytes)
+
+-- a frame of version 1 with this type, xid and body
+abbrev pub made : ℕ → ℕ → List ℕ → List ℕ
+made kind xid body = 1 ∷ kind ∷ (big_bytes 2 (8 + length body) ++ (big_bytes 4 xid ++ body))
