@@ -1,2 +1,4 @@
 pub mod Keeping
 pub mod Fitting
+pub mod Packing
+pub mod Sorting
