@@ -1,0 +1,14 @@
+//! Messages of OpenFlow 1.0.0 and their bytes.
+#![tactic(auto)]
+
+mod command;
+mod fault;
+mod flow_mod;
+mod numbers;
+pub mod kinds;
+pub mod ports;
+
+pub use command::Command;
+pub use fault::ModFault;
+pub use flow_mod::{FlowMod, RawActions};
+pub use mon_list::OutOfMemory;
