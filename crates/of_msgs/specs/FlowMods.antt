@@ -40,6 +40,11 @@ pub record IsFlowMod (bytes : List ℕ) (m : FlowMod) : Type 0 where
   pub raw_from_72 : m.raw ≡ drop 72 bytes
   pub actions : actions_of (drop 72 bytes) ≡ Ok m.actions
 
+-- a fault of the actions as one of the message
+abbrev pub as_mod_fault : ActionFault → ModFault
+as_mod_fault (actions.ActionLength place) = faults.ActionLength place
+as_mod_fault actions.OutOfMemory = faults.OutOfMemory
+
 -- what a reader of FLOW_MODs answers: the message, or the first of these faults that the bytes have, unless memory ran out
 abbrev pub ReadsFlowMod : List ℕ → Result FlowMod ModFault → Type 0
 ReadsFlowMod bytes (Ok m) = IsFlowMod bytes m

@@ -2,8 +2,10 @@
 
 ghost use Rattle.std.specs.Prelude.{◌≡◌};
 ghost use Rattle.of_msgs.specs.declared.fault.ModFault.TheVariants as faults;
+ghost use Rattle.of_msgs.specs.FlowMods.{as_mod_fault};
 
 use mon_list::OutOfMemory;
+use of_action::ActionFault;
 use std::alloc::{AllocError, AllocFailed};
 use thiserror::Error;
 
@@ -29,6 +31,17 @@ impl From<OutOfMemory> for ModFault {
 
     fn from(_: OutOfMemory) -> Self {
         ModFault::OutOfMemory
+    }
+}
+
+impl From<ActionFault> for ModFault {
+    ghost from_gives = { λ given fault. fault ≡ as_mod_fault given };
+
+    fn from(given: ActionFault) -> Self {
+        match given {
+            ActionFault::ActionLength { place } => ModFault::ActionLength { place },
+            ActionFault::OutOfMemory => ModFault::OutOfMemory,
+        }
     }
 }
 

@@ -7,8 +7,10 @@ mod flow_mod;
 mod numbers;
 pub mod kinds;
 pub mod ports;
+mod reading;
 
 pub use command::Command;
 pub use fault::ModFault;
 pub use flow_mod::{FlowMod, RawActions};
 pub use mon_list::OutOfMemory;
+pub use reading::{read_features, read_flow_mod, read_miss_length};
