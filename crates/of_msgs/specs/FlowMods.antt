@@ -1,5 +1,5 @@
 -- A FLOW_MOD by its byte places (OpenFlow 1.0.0, modify flow entry message), and what one is refused for.
-use Rattle.std.specs.Prelude.{◌≡◌, ℕ, ◌<◌, ◌≤◌, List, ◌∷◌, ◌++◌, length, take, drop, Result, Ok, Err}
+use Rattle.std.specs.Prelude.{◌≡◌, ℕ, ◌<◌, ◌≤◌, ◌^◌, List, ◌∷◌, ◌++◌, length, take, drop, Result, Ok, Err}
 use Rattle.byteorder.specs.Endian.{big_bytes}
 use Rattle.of_frame.specs.Header.{xid_of, made}
 use Rattle.of_match.specs.Layout.{match_of}
@@ -22,6 +22,18 @@ command_number DeleteStrict = 4
 
 abbrev pub command_at : List ℕ → ℕ
 command_at bytes = number_at 2 56 bytes
+
+-- the numbers of a message fit their fields
+pub record FitsMod (m : FlowMod) : Type 0 where
+  pub xid : m.xid < 2 ^ 32
+  pub spelled : length m.spelled ≡ 40
+  pub cookie : m.cookie < 2 ^ 64
+  pub idle : m.idle < 2 ^ 16
+  pub hard : m.hard < 2 ^ 16
+  pub priority : m.priority < 2 ^ 16
+  pub buffer : m.buffer < 2 ^ 32
+  pub out_port : m.out_port < 2 ^ 16
+  pub flags : m.flags < 2 ^ 16
 
 -- the bytes are a whole FLOW_MOD, and these are its fields
 pub record IsFlowMod (bytes : List ℕ) (m : FlowMod) : Type 0 where
@@ -54,9 +66,12 @@ ReadsFlowMod bytes (Err (faults.ActionLength place)) =
     (72 ≤ length bytes) × (command_at bytes ≤ 4) × (actions_of (drop 72 bytes) ≡ Err place)
 ReadsFlowMod bytes (Err faults.OutOfMemory) = Unit {0}
 
+-- the fields between the match and the actions
+abbrev pub fields_of_mod : FlowMod → List ℕ
+fields_of_mod m =
+    big_bytes 8 m.cookie ++ big_bytes 2 (command_number m.command) ++ big_bytes 2 m.idle ++ big_bytes 2 m.hard
+    ++ big_bytes 2 m.priority ++ big_bytes 4 m.buffer ++ big_bytes 2 m.out_port ++ big_bytes 2 m.flags
+
 -- the frame of a FLOW_MOD: the match and the actions as they were spelled
 abbrev pub flow_mod_of : FlowMod → List ℕ
-flow_mod_of m =
-    made 14 m.xid (m.spelled ++ (big_bytes 8 m.cookie ++ (big_bytes 2 (command_number m.command) ++ (big_bytes 2 m.idle
-    ++ (big_bytes 2 m.hard ++ (big_bytes 2 m.priority ++ (big_bytes 4 m.buffer ++ (big_bytes 2 m.out_port
-    ++ (big_bytes 2 m.flags ++ m.raw)))))))))
+flow_mod_of m = made 14 m.xid (m.spelled ++ fields_of_mod m ++ m.raw)

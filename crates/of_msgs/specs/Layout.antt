@@ -30,11 +30,12 @@ pub record IsError (bytes : List ℕ) (kind code : ℕ) (failed : List ℕ) : Ty
 
 -- the ERROR for a frame: its xid, and its first 64 bytes, or all of a shorter one
 abbrev pub error_of : ℕ → ℕ → List ℕ → List ℕ
-error_of kind code failed = made 1 (xid_of failed) (big_bytes 2 kind ++ (big_bytes 2 code ++ take 64 failed))
+error_of kind code failed = made 1 (xid_of failed) (big_bytes 2 kind ++ big_bytes 2 code ++ take 64 failed)
 
 -- a PACKET_OUT has the buffer at 8, the port at which the packet came at 12, the length of the actions at 14, the actions from 16 on, and then the packet
-pub record IsPacketOut (bytes : List ℕ) (buffer in_port : ℕ) (actions packet : List ℕ) : Type 0 where
+pub record IsPacketOut (bytes : List ℕ) (xid buffer in_port : ℕ) (actions packet : List ℕ) : Type 0 where
   pub kind : kind_of bytes ≡ 13
+  pub xid_at_4 : xid ≡ xid_of bytes
   pub buffer_at_8 : buffer ≡ number_at 4 8 bytes
   pub in_port_at_12 : in_port ≡ number_at 2 12 bytes
   pub len_at_14 : length actions ≡ number_at 2 14 bytes
