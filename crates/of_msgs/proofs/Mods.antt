@@ -33,4 +33,4 @@ pub refused : (answer : Result FlowMod ModFault) (fault : ActionFault) (bytes fr
 refused (Ok m) fault bytes frame same long few reads given = absurd given
 refused (Err e) fault bytes frame same long few reads given =
     subst (λ (f : ModFault). ReadsFlowMod frame (Err f)) (sym given)
-      (subst (λ (bs : List ℕ). ReadsFlowMod bs (Err (as_mod_fault fault))) same (faulty_actions fault bytes long few reads))
+    (subst (λ (bs : List ℕ). ReadsFlowMod bs (Err (as_mod_fault fault))) same (faulty_actions fault bytes long few reads))

@@ -41,15 +41,15 @@ pub record IsPacketOut (bytes : List ℕ) (xid buffer in_port : ℕ) (actions pa
   pub len_at_14 : length actions ≡ number_at 2 14 bytes
   pub actions_from_16 : actions ++ packet ≡ drop 16 bytes
 
--- the transaction id of the monitor's own frames
+-- the transaction id of the monitor's own frames, 0x4d6f6e6f
 abbrev pub own_xid : ℕ
 own_xid = 1299148399
 
--- one output, of none of the packet to the controller
+-- one output, with none of the packet for the controller
 abbrev pub output_to : ℕ → List ℕ
 output_to port = spelled (Output port 0 ∷ [])
 
--- the monitor's PACKET_OUT: no buffer, no port at which the packet came, and one output
+-- the monitor's PACKET_OUT: no buffer (0xffffffff), no port at which the packet came (0xffff), eight bytes of actions, and the packet
 abbrev pub packet_out_of : ℕ → List ℕ → List ℕ
 packet_out_of port packet =
     made 13 own_xid (big_bytes 4 4294967295 ++ (big_bytes 2 65535 ++ (big_bytes 2 8 ++ (output_to port ++ packet))))

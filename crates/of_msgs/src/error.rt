@@ -50,12 +50,7 @@ fn front(bytes: &[u8]) -> &[u8]
 }
 
 /// What stands behind the header.
-fn body_of(
-    alloc: Global,
-    kind: u16,
-    code: u16,
-    failed: &[u8],
-) -> Result<Vec<u8>, OutOfMemory>
+fn body_of(alloc: Global, kind: u16, code: u16, failed: &[u8]) -> Result<Vec<u8>, OutOfMemory>
     ensures value { IfOk result (λ body. body.items ≡ big_bytes 2 kind ++ big_bytes 2 code ++ take 64 failed.now) }
     ensures short { IfOk result (λ body. length body.items ≤ 68) }
 {

@@ -16,12 +16,6 @@ pub const OWN_XID: u32 = 0x4d6f_6e6f;
 /// The number that names no buffer of a switch.
 pub const NO_BUFFER: u32 = 0xffff_ffff;
 
-/// The reason of a PACKET_IN: no entry matched.
-pub const NO_MATCH: u8 = 0;
-
-/// The reason of a PACKET_IN: an entry's action.
-pub const ACTION: u8 = 1;
-
 /// A PACKET_IN (OpenFlow 1.0.0, packet-in message): the port at which the packet came, why the switch sends it, and as
 /// many of its bytes as the switch sent.
 #[derive(Clone, Copy)]
@@ -55,6 +49,7 @@ pub fn packet_out(alloc: Global, port: u16, content: &[u8]) -> Result<Frame, Out
     let mut body = Vec::with_capacity(alloc, 16 + content.len())?;
     body.extend_from_slice(&NO_BUFFER.to_be_bytes())?;
     body.extend_from_slice(&ports::NONE.to_be_bytes())?;
+    // eight bytes of actions: an OUTPUT of eight bytes
     body.extend_from_slice(&[0, 8, 0, 0, 0, 8])?;
     body.extend_from_slice(&port.to_be_bytes())?;
     body.extend_from_slice(&[0, 0])?;

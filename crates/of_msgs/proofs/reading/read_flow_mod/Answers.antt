@@ -12,7 +12,7 @@ returns-in_err-actions c =
     let bytes = c.bytes-bytes.result.now in
     let few : command_at bytes ≤ 4 = rw (← c.u16_at.ensures, ← c.in-Some.ensures) (few_commands c.in-Some.command) in
     refused _ c.in_err-actions.field-0.0 bytes _ c.bytes-bytes.ensures.value c.if-bytes-lt72.false few
-      (rw take_rest at c.in_err-actions.ensures) c.from_residual.ensures.1
+    (rw take_rest at c.in_err-actions.ensures) c.from_residual.ensures.1
 
 pub returns : goal.returns
 returns c =
