@@ -3,7 +3,6 @@ use Rattle.std.proofs.Common.{◌≡◌, ℕ, ◌≤◌, List, length, drop, Res
 use Rattle.std.specs.Prelude.{IsErrAnd}
 use Rattle.of_action.specs.declared.fault.ActionFault.{ActionFault}
 use Rattle.of_action.specs.declared.fault.ActionFault.TheVariants as actions
-use Rattle.mon_header.specs.declared.action.Action.{Action}
 use Rattle.of_action.specs.Reading.{actions_of, Reads}
 use Rattle.of_msgs.specs.declared.fault.ModFault.{ModFault}
 use Rattle.of_msgs.specs.declared.flow_mod.FlowMod.{FlowMod}

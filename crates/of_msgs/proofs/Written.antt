@@ -1,15 +1,14 @@
 -- What is written is read back.
-use Rattle.std.proofs.Common.{◌≡◌, ℕ, ◌+◌, ◌^◌, ◌<◌, ◌≤◌, List, [], ◌∷◌, ◌++◌, length, take, drop, Result, Ok, refl, sym, ap, ◌∙◌, append_assoc, arith}
-use Rattle.std.specs.Prelude.{slice_index}
+use Rattle.std.proofs.Common.{◌≡◌, ℕ, ◌+◌, ◌^◌, ◌<◌, List, ◌++◌, length, take, drop, refl, sym, ap, ◌∙◌, append_assoc, arith}
 use Rattle.std.proofs.lemmas.List.{take_at, drop_at, drop-drop, length-append}
 use Rattle.byteorder.specs.Endian.{big_number, big_bytes}
 use Rattle.byteorder.specs.Numbers.{big_number-reads_back}
-use Rattle.of_action.specs.Reading.{number_at, actions_of}
+use Rattle.of_action.specs.Reading.{actions_of}
 use Rattle.of_frame.specs.Header.{xid_of, made}
 use Rattle.of_match.specs.Layout.{match_of}
 use Rattle.of_msgs.specs.declared.flow_mod.FlowMod.{FlowMod}
 use Rattle.of_msgs.specs.Layout.{IsError, error_of}
-use Rattle.of_msgs.specs.FlowMods.{command_number, command_at, FitsMod, IsFlowMod, fields_of_mod, flow_mod_of}
+use Rattle.of_msgs.specs.FlowMods.{command_number, FitsMod, IsFlowMod, fields_of_mod, flow_mod_of}
 use Rattle.of_msgs.proofs.Mods.{few_commands}
 
 pub error_fields : (kind code : ℕ) (failed : List ℕ) → kind < 2 ^ 16 → code < 2 ^ 16 → IsError (error_of kind code failed) kind code (take 64 failed)

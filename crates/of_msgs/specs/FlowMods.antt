@@ -1,5 +1,5 @@
 -- A FLOW_MOD by its byte places (OpenFlow 1.0.0, modify flow entry message), and what one is refused for.
-use Rattle.std.specs.Prelude.{◌≡◌, ℕ, ◌<◌, ◌≤◌, ◌^◌, List, ◌∷◌, ◌++◌, length, take, drop, Result, Ok, Err}
+use Rattle.std.specs.Prelude.{◌≡◌, ℕ, ◌<◌, ◌≤◌, ◌^◌, List, ◌++◌, length, take, drop, Result, Ok, Err}
 use Rattle.byteorder.specs.Endian.{big_bytes}
 use Rattle.of_frame.specs.Header.{xid_of, made}
 use Rattle.of_match.specs.Layout.{match_of}

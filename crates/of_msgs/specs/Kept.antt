@@ -1,5 +1,5 @@
 -- What a FLOW_MOD keeps of its match and its actions.
-use Rattle.std.specs.Prelude.{◌≡◌, ℕ, List, Result, Ok}
+use Rattle.std.specs.Prelude.{◌≡◌, ℕ, List, Ok}
 use Rattle.std.specs.Coded.{Coded, Coded-set, coded_ℕ, coded_result}
 use Rattle.mon_header.specs.declared.action.Action.{Action}
 use Rattle.of_action.specs.Reading.{actions_of}

@@ -13,8 +13,9 @@ const ADD: &str = "010e005000000011
     003220ef 0000 000000000000 000000000000 0000 00 00 0800 00 00 0000 00000000 0a000000 0000 0000
     0000000000000000 0000 0000 0000 0064 ffffffff ffff 0000 0000000800020000";
 
-/// The packet of a probe.
-const PACKET: &str = "020000000002 020000000001 81000064 0800
+/// A PACKET_OUT of a probe at port 1.
+const PROBE: &str = "010d005e4d6f6e6f ffffffffffff0008 0000000800010000
+    020000000002 020000000001 81000064 0800
     45000034 00000000 401166b7 0a000001 0a000002
     00010002 0020c789 4d4f4e4f434c4531 0000000000000001 0000000000000002";
 
@@ -155,51 +156,52 @@ fn refused_flow_mods(rt: HostRuntime) -> Result<(), Fail> {
 #[test]
 fn errors_bear_what_failed(rt: HostRuntime) -> Result<(), Fail> {
     let alloc = rt.alloc();
-    let failed = frame(alloc, ADD)?;
-    let made = error_frame(
-        alloc,
-        errors::FLOW_MOD_FAILED,
-        errors::ALL_TABLES_FULL,
-        &failed,
-    )?;
-    let header = bytes(alloc, "0101004c00000011 0003 0000")?;
-    assert_eq!(rt; made.bytes().len(), 76);
-    assert_eq!(rt; failed.bytes().len(), 80);
-    assert_eq!(rt; &made.bytes()[..12], header.as_slice());
-    assert_eq!(rt; &made.bytes()[12..], &failed.bytes()[..64]);
-    let short = frame(alloc, "0112000800000012")?;
-    let made = error_frame(
-        alloc,
-        errors::BAD_REQUEST,
-        errors::BAD_REQUEST_BAD_LEN,
-        &short,
-    )?;
-    let whole = bytes(alloc, "0101001400000012 0001 0006 0112000800000012")?;
-    assert_eq!(rt; made.bytes(), whole.as_slice());
-    let read = read_error(&made).ok_or("an ERROR")?;
-    assert_eq!(rt; (read.kind, read.code), (1, 6));
-    assert_eq!(rt; read.content, short.bytes());
+    let cases = [
+        (
+            ADD,
+            errors::FLOW_MOD_FAILED,
+            errors::ALL_TABLES_FULL,
+            "0101004c00000011 0003 0000 010e005000000011
+            003220ef 0000 000000000000 000000000000 0000 00 00 0800 00 00 0000 00000000 0a000000 0000 0000
+            0000000000000000 0000 0000 0000 0064",
+        ),
+        (
+            "0112000800000012",
+            errors::BAD_REQUEST,
+            errors::BAD_REQUEST_BAD_LEN,
+            "0101001400000012 0001 0006 0112000800000012",
+        ),
+    ];
+    for (failed, kind, code, wanted) in cases {
+        let made = error_frame(alloc, kind, code, &frame(alloc, failed)?)?;
+        assert_eq!(rt; made.bytes(), frame(alloc, wanted)?.bytes());
+    }
     Ok(())
 }
 
 #[test]
-fn packets_and_numbers(rt: HostRuntime) -> Result<(), Fail> {
+fn a_probe_goes_out(rt: HostRuntime) -> Result<(), Fail> {
     let alloc = rt.alloc();
-    let packet = bytes(alloc, PACKET)?;
-    assert_eq!(rt; packet.len(), 70);
-    let made = packet_out(alloc, 1, &packet)?;
-    let header = bytes(alloc, "010d005e4d6f6e6f ffffffffffff0008 0000000800010000")?;
-    assert_eq!(rt; made.bytes().len(), 94);
-    assert_eq!(rt; &made.bytes()[..24], header.as_slice());
-    assert_eq!(rt; &made.bytes()[24..], packet.as_slice());
-    let given = frame(alloc, "010a001400000000 ffffffff 0002 0007 01 00 abcd")?;
-    let read = read_packet_in(&given).ok_or("a PACKET_IN")?;
-    assert_eq!(rt; (read.in_port, read.reason), (7, reasons::ACTION));
-    assert_eq!(rt; read.content, [0xab, 0xcd].as_slice());
+    let whole = bytes(alloc, PROBE)?;
+    assert_eq!(rt; whole.len(), 94);
+    let made = packet_out(alloc, 1, &whole[24..])?;
+    assert_eq!(rt; made.bytes(), whole.as_slice());
+    Ok(())
+}
+
+#[test]
+fn readers_without_memory(rt: HostRuntime) -> Result<(), Fail> {
+    let alloc = rt.alloc();
+    let packet = frame(alloc, "010a001400000000 ffffffff 0002 0007 01 00 abcd")?;
+    let packet = read_packet_in(&packet).ok_or("a PACKET_IN")?;
+    assert_eq!(rt; (packet.in_port, packet.reason), (7, reasons::ACTION));
+    assert_eq!(rt; packet.content, [0xab, 0xcd].as_slice());
+    let error = frame(alloc, "0101000d00000000 0003 0004 ab")?;
+    let error = read_error(&error).ok_or("an ERROR")?;
+    assert_eq!(rt; (error.kind, error.code), (3, errors::BAD_COMMAND));
     let features = "010600204d6f6e6f 0000000000000002 00000100 01000000 00000000 00000fff";
     assert_eq!(rt; read_features(&frame(alloc, features)?), Some(2));
     let config = frame(alloc, "0109000c4d6f6e6f 00000080")?;
     assert_eq!(rt; read_miss_length(&config), Some(128));
-    assert_eq!(rt; read_features(&config), None);
     Ok(())
 }

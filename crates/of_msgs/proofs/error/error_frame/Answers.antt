@@ -1,4 +1,4 @@
-use Rattle.std.proofs.Common.{◌≡◌, ap, ◌∙◌}
+use Rattle.std.proofs.Common.{◌∙◌}
 use Rattle.std.proofs.lemmas.Result.{IfOk-weaker}
 use Rattle.of_msgs.proofs.Written.{error_read_back}
 use Rattle.of_msgs.proofs.error.error_frame.Goals as goal

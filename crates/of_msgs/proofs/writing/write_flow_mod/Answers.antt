@@ -1,4 +1,4 @@
-use Rattle.std.proofs.Common.{◌≡◌, ap, ◌∙◌}
+use Rattle.std.proofs.Common.{◌∙◌}
 use Rattle.std.proofs.lemmas.Result.{IfOk-weaker}
 use Rattle.of_msgs.proofs.Written.{read_back}
 use Rattle.of_msgs.proofs.writing.write_flow_mod.Goals as goal
