@@ -1,0 +1,41 @@
+//! What a FLOW_MOD does.
+
+ghost use Rattle.std.specs.Prelude.{◌≡◌, ◌<◌, MatchOption};
+ghost use Rattle.of_msgs.specs.FlowMods.{command_number};
+
+/// What a FLOW_MOD does to the flow table (OpenFlow 1.0.0, modify flow entry message).
+#[derive(Clone, Copy, Debug, PartialEq, Eq)]
+pub enum Command {
+    Add,
+    Modify,
+    ModifyStrict,
+    Delete,
+    DeleteStrict,
+}
+
+/// The command of this number.
+pub(crate) fn command_of(number: u16) -> Option<Command>
+    ensures { MatchOption result (4 < number) (λ command. command_number command ≡ number) }
+{
+    match number {
+        0 => Some(Command::Add),
+        1 => Some(Command::Modify),
+        2 => Some(Command::ModifyStrict),
+        3 => Some(Command::Delete),
+        4 => Some(Command::DeleteStrict),
+        _ => None,
+    }
+}
+
+/// The number of a command.
+pub(crate) fn number_of(command: Command) -> u16
+    ensures { result ≡ command_number command }
+{
+    match command {
+        Command::Add => 0,
+        Command::Modify => 1,
+        Command::ModifyStrict => 2,
+        Command::Delete => 3,
+        Command::DeleteStrict => 4,
+    }
+}
