@@ -112,6 +112,10 @@ abbrev pub onto : {A : Type 0} → List A → Option (List A) → Option (List A
 onto front None = None
 onto front (Some more) = Some (front ++ more)
 
+abbrev pub one : Option Event → Option (List Event)
+one None = None
+one (Some event) = Some (event ∷ [])
+
 -- the same where a line has no end
 abbrev pub events_in : Option (List (List ℕ)) → Option (List Event)
 events_in None = None

@@ -16,6 +16,10 @@ digit_of c =
     if nat_le 48 c && nat_le c 57 then Some (c - 48)
     else (if nat_le 97 c && nat_le c 102 then Some (c - 87) else None)
 
+-- a digit below 16, and none from 16 on
+abbrev pub digit_in : ℕ → Option ℕ
+digit_in value = if nat_lt value 16 then Some value else None
+
 abbrev pub joined : Option ℕ → Option ℕ → Option ℕ
 joined (Some high) (Some low) = Some (16 * high + low)
 joined (Some high) None = None

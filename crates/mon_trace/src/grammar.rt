@@ -1,15 +1,15 @@
 //! The text of a trace.
 
-ghost use Rattle.std.specs.Prelude.{◌≡◌, ◌<◌, ◌++◌, List, ℕ, ◌^◌, length, []};
-ghost use Rattle.mon_trace.specs.Grammar.{Reads, Traced, piece_of, record_of, switch_record, pieces_in, events_in, is_open, key_of, trace_of, lines_of, onto};
-ghost use Rattle.mon_trace.specs.Hex.{unhex};
+ghost use Rattle.std.specs.Prelude.{◌≡◌, ◌<◌, ◌^◌, length};
+ghost use Rattle.mon_trace.specs.Grammar.{Reads, record_of, switch_record, pieces_in, events_in, is_open, key_of, trace_of, lines_of, onto, one};
 ghost use Rattle.mon_world.specs.Logs.{AllNamed, NoStop};
 
+use crate::events::Events;
 use crate::fault::TraceFault;
-use crate::hexadecimal::from_digits;
+use crate::hexadecimal::push_bytes;
 use crate::lines::{before, behind, end_of_line};
 use byteorder::{BigEndian, ByteOrder};
-use mon_world::{Event, Piece, Side};
+use mon_world::Side;
 use std::alloc::Global;
 use std::marker::Model;
 
@@ -17,7 +17,7 @@ use std::marker::Model;
 #[derive(Drop)]
 pub struct Trace {
     key: u64,
-    events: Vec<Event>,
+    events: Events,
 }
 
 impl Model for Trace {
@@ -26,9 +26,9 @@ impl Model for Trace {
 
     ghost Value = { Traced };
 
-    ghost view = { λ t. record { key = t.key; events = t.events.items } };
+    ghost view = { λ t. record { key = t.key; events = t.events } };
 
-    ghost invariant = { λ t. AllNamed 0 t.events.items × NoStop t.events.items };
+    ghost invariant = { λ t. AllNamed 0 t.events × NoStop t.events };
 }
 
 impl Trace {
@@ -47,7 +47,7 @@ impl Trace {
         self.events.len() as u64
     }
 
-    pub(crate) fn events(&self) -> &[Event]
+    pub(crate) fn events(&self) -> &Events
         ensures value { result.now ≡ self.now.events }
         ensures named { AllNamed 0 self.now.events }
         ensures unstopped { NoStop self.now.events }
@@ -56,54 +56,39 @@ impl Trace {
     }
 }
 
-fn piece(alloc: Global, side: Side, digits: &[u8]) -> Result<Event, TraceFault>
-    ensures { Reads (λ e. e) result (piece_of side (unhex digits.now)) }
-{
-    let bytes = from_digits(alloc, digits)?;
-    if bytes.is_empty() || bytes.len() > 4096 {
-        return Err(TraceFault::BadTrace);
-    }
-    let bytes = Piece::new(alloc, &bytes)?;
-    Ok(Event::Piece {
-        session: 0,
-        side,
-        bytes,
-    })
-}
-
+/// Reads a record after the first.
 #[tactic(auto, unfolding(crate::specs::Grammar::record_of))]
-fn record_of(alloc: Global, line: &[u8]) -> Result<Event, TraceFault>
-    ensures { Reads (λ e. e) result (record_of line.now) }
+fn read_record(line: &[u8], events: &mut Events) -> Result<(), TraceFault>
+    ensures { Reads (λ _. events.new) result (onto events.old (one (record_of line.now))) }
 {
     if line.starts_with(b"from controller 0 ") {
-        piece(alloc, Side::Controller, &line[18..])
+        events.push_piece(Side::Controller, &line[18..])
     } else {
-        record_of_switch(alloc, line)
+        read_switch_record(line, events)
     }
 }
 
 #[tactic(auto, unfolding(crate::specs::Grammar::switch_record))]
-fn record_of_switch(alloc: Global, line: &[u8]) -> Result<Event, TraceFault>
-    ensures { Reads (λ e. e) result (switch_record line.now) }
+fn read_switch_record(line: &[u8], events: &mut Events) -> Result<(), TraceFault>
+    ensures { Reads (λ _. events.new) result (onto events.old (one (switch_record line.now))) }
 {
     if line.starts_with(b"from switch 0 ") {
-        piece(alloc, Side::Switch, &line[14..])
+        events.push_piece(Side::Switch, &line[14..])
     } else {
         Err(TraceFault::BadTrace)
     }
 }
 
-/// The records after the first.
-fn pieces(alloc: Global, text: &[u8], events: &mut Vec<Event>) -> Result<(), TraceFault>
-    ensures { Reads (λ _. events.new.items) result (onto events.old.items (pieces_in (lines_of text.now))) }
+/// Reads the records after the first.
+fn read_pieces(text: &[u8], events: &mut Events) -> Result<(), TraceFault>
+    ensures { Reads (λ _. events.new) result (onto events.old (pieces_in (lines_of text.now))) }
 {
     let mut rest = text;
     while !rest.is_empty() {
         let Some(end) = end_of_line(rest) else {
             return Err(TraceFault::BadTrace);
         };
-        let event = record_of(alloc, before(rest, end))?;
-        events.push(event)?;
+        read_record(before(rest, end), events)?;
         rest = behind(rest, end);
     }
     Ok(())
@@ -115,11 +100,12 @@ fn opens(line: &[u8]) -> bool
     line.starts_with(b"open") && line.len() == 4
 }
 
-/// All records.
-fn events(alloc: Global, text: &[u8]) -> Result<Vec<Event>, TraceFault>
-    ensures { Reads (λ v. v.items) result (events_in (lines_of text.now)) }
+/// Reads all records.
+fn read_events(alloc: Global, text: &[u8]) -> Result<Events, TraceFault>
+    ensures { Reads (λ events. events) result (events_in (lines_of text.now)) }
 {
-    let mut events = Vec::new(alloc);
+    // A piece of n bytes has a line of more than 2 n.
+    let mut events = Events::new(alloc, text.len() / 2)?;
     if text.is_empty() {
         return Ok(events);
     }
@@ -129,20 +115,21 @@ fn events(alloc: Global, text: &[u8]) -> Result<Vec<Event>, TraceFault>
     if !opens(before(text, end)) {
         return Err(TraceFault::BadTrace);
     }
-    events.push(Event::Opened)?;
-    pieces(alloc, behind(text, end), &mut events)?;
+    events.push_opening()?;
+    read_pieces(behind(text, end), &mut events)?;
     Ok(events)
 }
 
 /// The key of the first line.
 #[tactic(auto, unfolding(crate::specs::Grammar::key_of))]
-fn key(alloc: Global, line: &[u8]) -> Result<u64, TraceFault>
-    ensures { Reads (λ k. k) result (key_of line.now) }
+fn read_key(alloc: Global, line: &[u8]) -> Result<u64, TraceFault>
+    ensures { Reads (λ key. key) result (key_of line.now) }
 {
     if !line.starts_with(b"monocle-trace 1 ") || line.len() != 32 {
         return Err(TraceFault::BadTrace);
     }
-    let bytes = from_digits(alloc, &line[16..])?;
+    let mut bytes = Vec::with_capacity(alloc, 8)?;
+    push_bytes(&line[16..], &mut bytes)?;
     Ok(BigEndian::read_u64(&bytes))
 }
 
@@ -156,7 +143,7 @@ pub fn read_trace(alloc: Global, text: &[u8]) -> Result<Trace, TraceFault>
     let Some(end) = end_of_line(text) else {
         return Err(TraceFault::BadTrace);
     };
-    let key = key(alloc, before(text, end))?;
-    let events = events(alloc, behind(text, end))?;
+    let key = read_key(alloc, before(text, end))?;
+    let events = read_events(alloc, behind(text, end))?;
     Ok(Trace { key, events })
 }

@@ -54,34 +54,6 @@ fn entry_of(alloc: Global, out: &Out) -> Result<Entry, OutOfMemory>
     }
 }
 
-fn copy_of(alloc: Global, event: &Event) -> Result<Event, OutOfMemory>
-    ensures { IfOk result (λ e. e ≡ event.now) }
-{
-    match event {
-        Event::Opened => Ok(Event::Opened),
-        Event::Piece {
-            session,
-            side,
-            bytes,
-        } => Ok(Event::Piece {
-            session: *session,
-            side: *side,
-            bytes: Piece::new(alloc, bytes.bytes())?,
-        }),
-        Event::Stop => Ok(Event::Stop),
-    }
-}
-
-/// The event at a place, and Stop behind the last.
-fn following(alloc: Global, events: &[Event], at: usize) -> Result<Event, OutOfMemory>
-    ensures { IfOk result (λ e. e ≡ event_at events.now at) }
-{
-    match events.get(at) {
-        Some(event) => copy_of(alloc, event),
-        None => Ok(Event::Stop),
-    }
-}
-
 impl TraceHub {
     /// A hub before its first event.
     pub fn new(alloc: Global, trace: Trace) -> Result<TraceHub, OutOfMemory>
@@ -115,8 +87,8 @@ impl TraceHub {
         ensures events { self.new.events ≡ self.old.events }
         ensures names { IfOk result (λ event. NamesOpened (opened_in self.new.log) event) }
     {
-        let event = following(alloc, self.trace.events(), self.at)?;
-        let copy = copy_of(alloc, &event)?;
+        let event = self.trace.events().event(alloc, self.at)?;
+        let copy = self.trace.events().event(alloc, self.at)?;
         self.entries.push(Entry::Given(copy))?;
         self.number += 1;
         if self.at < self.trace.events().len() {

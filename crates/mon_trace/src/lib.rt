@@ -1,6 +1,7 @@
 //! Traces: their text, and a hub that gives their events and keeps what it is given.
 #![tactic(auto)]
 
+mod events;
 mod fault;
 mod grammar;
 mod hexadecimal;
