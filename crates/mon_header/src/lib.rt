@@ -28,7 +28,7 @@ pub use laws::{
     bits_are_the_header, classes_are_apart, covering_is_taking_all, normal_is_kept,
     order_is_strict_and_total, overlapping_is_a_shared_header,
 };
-pub use matching::{Match, covers, effective, matches, overlaps};
+pub use matching::{Match, Matches, covers, effective, matches, overlaps};
 pub use mon_list::OutOfMemory;
 pub use order::{match_before, same_header, same_match};
 pub use places::{bit, from_bits};

@@ -6,6 +6,7 @@ ghost use Rattle.mon_header.specs.Matching.{Matching, IsNormal, InRange, normal,
 
 use crate::header::Header;
 use crate::wild::{Wildcards, is_exact, pack, unpack};
+use mon_list::Items;
 use std::marker::Model;
 
 /// Which headers a rule takes (OpenFlow 1.0.0, flow match structures), always in its normalised form.
@@ -26,6 +27,9 @@ impl Model for Match {
 
     ghost inverse = { λ m. record { wild = m.wild; fields = m.fields } };
 }
+
+/// Matches in order.
+pub type Matches = Items<Match>;
 
 fn keep16(wild: bool, x: u16) -> u16
     ensures { result ≡ kept wild x }
