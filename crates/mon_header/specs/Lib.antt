@@ -1,5 +1,8 @@
 pub mod Wild
 pub mod Matching
 pub mod Order
+pub mod Laws
+pub mod Places
 pub mod Raw
 pub mod Actions
+pub mod Classes

@@ -1,17 +1,35 @@
 //! Headers, matches and actions of OpenFlow 1.0.0, without their bytes.
+//!
+//! A `Match` is always in its normalised form, so that equal matches are equal values. `matches`, `covers`, `overlaps`
+//! and `effective` go field by field; `match_before` is the order in which tables keep their rules. `bit` and
+//! `from_bits` give a header as 264 bits and take it from them, and the classes say which headers a frame can have.
+//!
+//! The functions with a law's name do nothing: their clauses say, for all matches and headers, what these words mean.
+//! Only the copies and lists of actions take memory.
 #![tactic(auto)]
 
 mod action;
 mod actions;
+#[cfg(test)]
+mod cases;
+mod class;
 mod header;
+mod laws;
 mod matching;
 mod order;
+mod places;
 mod wild;
 
 pub use action::{Action, RawAction, same_action};
 pub use actions::{Actions, same_actions};
+pub use class::{Class, in_class, is_in_class};
 pub use header::Header;
+pub use laws::{
+    bits_are_the_header, classes_are_apart, covering_is_taking_all, normal_is_kept,
+    order_is_strict_and_total, overlapping_is_a_shared_header,
+};
 pub use matching::{Match, covers, effective, matches, overlaps};
 pub use mon_list::OutOfMemory;
 pub use order::{match_before, same_header, same_match};
+pub use places::{bit, from_bits};
 pub use wild::Wildcards;

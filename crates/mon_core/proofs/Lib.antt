@@ -1,0 +1,4 @@
+pub mod Turns
+pub mod Ending
+pub mod Passing
+pub mod Faults

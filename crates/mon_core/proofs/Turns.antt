@@ -1,0 +1,206 @@
+-- What a turn adds to a history.
+use Rattle.std.proofs.Common.{◌≡◌, ℕ, zero, suc, ◌+◌, ◌<◌, Bool, true, false, List, [], ◌∷◌, ◌++◌, Option, Some, None, length, set, take, drop, refl, sym, ap, subst, ◌∙◌, arith}
+use Rattle.std.specs.Prelude.{slice_set, IfSome, OnOk, OnErr, Result, Ok, Err}
+use Rattle.std.proofs.lemmas.List.{append-nil, get_or-set_same, take-append-drop, length-append}
+use Rattle.std.proofs.Math.ListN.{length-set}
+use Rattle.std.proofs.Math.Seq.{take-length}
+use Rattle.of_frame.specs.declared.fault.FrameFault.{FrameFault}
+use Rattle.of_frame.specs.Cut.{Pending, cut}
+use Rattle.mon_world.specs.declared.event.Side.{Side}
+use Rattle.mon_world.specs.declared.event.Event.{Event}
+use Rattle.mon_world.specs.declared.event.Event.TheVariants.{Opened, Piece, Stop}
+use Rattle.mon_world.specs.declared.event.Out.{Out}
+use Rattle.mon_world.specs.declared.event.Out.TheVariants.{Send, Close}
+use Rattle.mon_world.specs.declared.history.Entry.{Entry}
+use Rattle.mon_world.specs.declared.history.Entry.TheVariants.{Given, Put, End}
+use Rattle.mon_world.specs.Logs.{entry_of, longer, opened_by, opened_in, NamesOpened, inputs, IsStop, NoStop, StopsNow}
+use Rattle.mon_core.proofs.Ending.{opened-in}
+use Rattle.mon_core.specs.History.{Sides, fresh, closed, closed_if, with_pending, pending_of, other, after_piece, after_turn, from_piece, sent, ending, session_at, on_event, sessions, owed, rest_of, IsFirst, LegalSoFar, Legal, Named, StandsFor, WasGiven, onto, logged, Ran, RanToStop}
+
+pub onto-more : (outs : List Out) (out : Out) (h : List Entry) → onto (outs ++ out ∷ []) h ≡ entry_of out ∷ onto outs h
+onto-more [] out h = refl
+onto-more (o ∷ os) out h = onto-more os out (entry_of o ∷ h)
+
+pub logged-more : (outs : List Out) (out : Out) (log : Option (List Entry)) → logged (outs ++ out ∷ []) log ≡ longer (entry_of out) (logged outs log)
+logged-more outs out None = refl
+logged-more outs out (Some h) = ap (λ (x : List Entry). Some x) (onto-more outs out h)
+
+pub logged-none : (log : Option (List Entry)) → logged [] log ≡ log
+logged-none None = refl
+logged-none (Some h) = refl
+
+-- outputs that are owed are legal, and leave what is owed behind them
+pub legal-onto : (outs more : List Out) (h : List Entry) → LegalSoFar h → owed h ≡ outs ++ more → LegalSoFar (onto outs h) × (owed (onto outs h) ≡ more)
+legal-onto [] more h legal e = (legal, e)
+legal-onto (Send n to frame ∷ outs) more h legal e =
+    legal-onto outs more (Put n to frame ∷ h) (subst (IsFirst (Send n to frame)) (sym e) refl, legal) (ap rest_of e)
+legal-onto (Close n ∷ outs) more h legal e =
+    legal-onto outs more (End n ∷ h) (subst (IsFirst (Close n)) (sym e) refl, legal) (ap rest_of e)
+
+-- outputs change a session only where they end it
+abbrev after_outs : List Out → List Sides → List Sides
+after_outs [] core = core
+after_outs (Send n to frame ∷ outs) core = after_outs outs core
+after_outs (Close n ∷ outs) core = after_outs outs (slice_set core n (closed (session_at core n)))
+
+sessions-onto : (outs : List Out) (h : List Entry) → sessions (onto outs h) ≡ after_outs outs (sessions h)
+sessions-onto [] h = refl
+sessions-onto (Send n to frame ∷ outs) h = sessions-onto outs (Put n to frame ∷ h)
+sessions-onto (Close n ∷ outs) h = sessions-onto outs (End n ∷ h)
+
+after_sent : (n : ℕ) (to : Side) (frames : List (List ℕ)) (outs : List Out) (core : List Sides) → after_outs (sent n to frames ++ outs) core ≡ after_outs outs core
+after_sent n to [] outs core = refl
+after_sent n to (frame ∷ frames) outs core = after_sent n to frames outs core
+
+-- the second write stands
+set-set : {A : Type 0} (xs : List A) (i : ℕ) (x y : A) → set (set xs i x) i y ≡ set xs i y
+set-set [] i x y = refl
+set-set (z ∷ xs) zero x y = refl
+set-set (z ∷ xs) (suc i) x y = ap (λ (t : List _). z ∷ t) (set-set xs i x y)
+
+after_ending : (core : List Sides) (n : ℕ) (session : Sides) (fault : Option FrameFault) → n < length core
+    → after_outs (ending n fault) (slice_set core n session) ≡ slice_set core n (closed_if fault session)
+after_ending core n session None lt = refl
+after_ending core n session (Some fault) lt = rw (get_or-set_same core n session fresh lt) (set-set core n session (closed session))
+
+-- the session that the history gives after a piece, once all that it leads to is put out
+after_turn_is : (core : List Sides) (n : ℕ) (controller switch : Pending) (ended : Bool) (side : Side) (bytes : List ℕ) → n < length core
+    → let session : Sides = record { controller = controller; switch = switch; ended = ended } in
+    after_outs (from_piece n session side bytes) (slice_set core n (after_piece session side bytes)) ≡ slice_set core n (after_turn session side bytes)
+after_turn_is core n controller switch true side bytes lt = refl
+after_turn_is core n controller switch false side bytes lt =
+    let session : Sides = record { controller = controller; switch = switch; ended = false } in
+    let found = cut (pending_of session side) bytes in
+    after_sent n (other side) found.1 (ending n found.0.fault) (slice_set core n (with_pending session side found.0))
+    ∙ after_ending core n (with_pending session side found.0) found.0.fault lt
+
+-- what is owed after an event is what the model puts out
+owed-given : (event : Event) (h : List Entry) → owed (Given event ∷ h) ≡ (on_event event (sessions h)).1
+unfolding on_event
+owed-given Opened h = refl
+owed-given (Piece n side bytes) h = refl
+owed-given Stop h = refl
+
+state-given : (event : Event) (h : List Entry) → NamesOpened (length (sessions h)) event
+    → after_outs (on_event event (sessions h)).1 (sessions (Given event ∷ h)) ≡ (on_event event (sessions h)).0
+unfolding on_event
+state-given Opened h names = refl
+state-given (Piece n side bytes) h names =
+    let s = session_at (sessions h) n in
+    after_turn_is (sessions h) n s.controller s.switch s.ended side bytes names
+state-given Stop h names = refl
+
+legal-given : (event : Event) (h : List Entry) → Legal h → LegalSoFar (Given event ∷ h)
+legal-given event h legal = (legal.whole, legal.so_far)
+
+-- an event that names an opened session, and outputs, which name none
+named-given : (event : Event) (h : List Entry) → NamesOpened (opened_in h) event → Named h → Named (Given event ∷ h)
+named-given Opened h names named = named
+named-given (Piece n side bytes) h names named = (names, named)
+named-given Stop h names named = named
+
+named-onto : (outs : List Out) (h : List Entry) → Named h → Named (onto outs h)
+named-onto [] h named = named
+named-onto (Send n to frame ∷ outs) h named = named-onto outs (Put n to frame ∷ h) named
+named-onto (Close n ∷ outs) h named = named-onto outs (End n ∷ h) named
+
+-- the model's turn makes a legal history longer
+turn-stands : (event : Event) (core after : List Sides) (outs : List Out) (h : List Entry) → NamesOpened (length core) event → on_event event core ≡ (after, outs) → StandsFor core h → StandsFor after (onto outs (Given event ∷ h))
+turn-stands event core after outs h names e stands =
+    let names' : NamesOpened (length (sessions h)) event = subst (λ c. NamesOpened (length c) event) stands.state names in
+    let e' : on_event event (sessions h) ≡ (after, outs) = subst (λ c. on_event event c ≡ (after, outs)) stands.state e in
+    let due : owed (Given event ∷ h) ≡ outs ++ [] = owed-given event h ∙ ap (λ x. x.1) e' ∙ sym (append-nil outs) in
+    let done = legal-onto outs [] (Given event ∷ h) (legal-given event h stands.legal) due in
+    let state : after_outs outs (sessions (Given event ∷ h)) ≡ after = subst (λ (x : List Sides × List Out). after_outs x.1 (sessions (Given event ∷ h)) ≡ x.0) e' (state-given event h names') in
+    record {
+      state = sym (sessions-onto outs (Given event ∷ h) ∙ state);
+      legal = record { so_far = done.0; whole = done.1 };
+      named = named-onto outs (Given event ∷ h) (named-given event h (subst (λ (k : ℕ). NamesOpened k event) (opened-in h) names') stands.named);
+    }
+
+turn-so_far : (event : Event) (core after : List Sides) (outs : List Out) (k : ℕ) (h : List Entry) → on_event event core ≡ (after, outs) → StandsFor core h → LegalSoFar (onto (take k outs) (Given event ∷ h))
+turn-so_far event core after outs k h e stands =
+    let e' : on_event event (sessions h) ≡ (after, outs) = subst (λ c. on_event event c ≡ (after, outs)) stands.state e in
+    let due : owed (Given event ∷ h) ≡ take k outs ++ drop k outs = owed-given event h ∙ ap (λ x. x.1) e' ∙ sym (take-append-drop k outs) in
+    (legal-onto (take k outs) (drop k outs) (Given event ∷ h) (legal-given event h stands.legal) due).0
+
+-- the same where the hub may tell no log
+pub logged-stands : (event : Event) (core after : List Sides) (outs : List Out) (log : Option (List Entry)) → NamesOpened (length core) event → on_event event core ≡ (after, outs)
+    → IfSome log (WasGiven event core) → IfSome (logged outs log) (StandsFor after)
+logged-stands event core after outs None names e given = tt
+logged-stands event core after outs (Some []) names e given = absurd given
+logged-stands event core after outs (Some (Given last ∷ h)) names e given =
+    subst (λ (x : Event). StandsFor after (onto outs (Given x ∷ h))) (sym given.0) (turn-stands event core after outs h names e given.1)
+logged-stands event core after outs (Some (Put n to frame ∷ h)) names e given = absurd given
+logged-stands event core after outs (Some (End n ∷ h)) names e given = absurd given
+
+pub logged-so_far : (event : Event) (core after : List Sides) (outs : List Out) (k : ℕ) (log : Option (List Entry)) → on_event event core ≡ (after, outs)
+    → IfSome log (WasGiven event core) → IfSome (logged (take k outs) log) LegalSoFar
+logged-so_far event core after outs k None e given = tt
+logged-so_far event core after outs k (Some []) e given = absurd given
+logged-so_far event core after outs k (Some (Given last ∷ h)) e given =
+    subst (λ (x : Event). LegalSoFar (onto (take k outs) (Given x ∷ h))) (sym given.0) (turn-so_far event core after outs k h e given.1)
+logged-so_far event core after outs k (Some (Put n to frame ∷ h)) e given = absurd given
+logged-so_far event core after outs k (Some (End n ∷ h)) e given = absurd given
+
+-- a turn that fails before its first output
+pub given-so_far : (event : Event) (core : List Sides) (log : Option (List Entry)) → IfSome log (WasGiven event core) → IfSome log LegalSoFar
+given-so_far event core None given = tt
+given-so_far event core (Some []) given = tt
+given-so_far event core (Some (Given last ∷ h)) given = legal-given last h given.1.legal
+given-so_far event core (Some (Put n to frame ∷ h)) given = absurd given
+given-so_far event core (Some (End n ∷ h)) given = absurd given
+
+-- what was given is on the log
+pub longer-given : (event : Event) (core : List Sides) (log : Option (List Entry)) → IfSome log (StandsFor core) → IfSome (longer (Given event) log) (WasGiven event core)
+longer-given event core None stands = tt
+longer-given event core (Some h) stands = (refl, stands)
+
+pub opened-is : (event : Event) (core after : List Sides) (outs : List Out) → on_event event core ≡ (after, outs) → length after ≡ opened_by event (length core)
+unfolding on_event
+opened-is Opened core after outs e = sym (ap (λ (x : List Sides × List Out). length x.0) e) ∙ length-append core (fresh ∷ [])
+opened-is (Piece n side bytes) core after outs e = sym (ap (λ (x : List Sides × List Out). length x.0) e) ∙ length-set core n _
+opened-is Stop core after outs e = sym (ap (λ (x : List Sides × List Out). length x.0) e)
+
+pub carried-so_far : {A E : Type 0} (r : Result A E) (event : Event) (core after : List Sides) (outs slice : List Out) (old new : Option (List Entry)) → on_event event core ≡ (after, outs)
+    → IfSome old (WasGiven event core) → slice ≡ outs → OnOk r (new ≡ logged slice old) → OnErr r ((n : ℕ) × (new ≡ logged (take n slice) old)) → IfSome new LegalSoFar
+carried-so_far (Ok x) event core after outs slice old new e given same ok err =
+    let all : new ≡ logged (take (length outs) outs) old = ok ∙ ap (λ (os : List Out). logged os old) (same ∙ sym (take-length outs)) in
+    subst (λ (l : Option (List Entry)). IfSome l LegalSoFar) (sym all) (logged-so_far event core after outs (length outs) old e given)
+carried-so_far (Err x) event core after outs slice old new e given same ok err =
+    subst (λ (l : Option (List Entry)). IfSome l LegalSoFar) (sym (err.1 ∙ ap (λ (os : List Out). logged (take err.0 os) old) same)) (logged-so_far event core after outs err.0 old e given)
+
+pub stood : (event : Event) (core after : List Sides) (outs slice : List Out) (old new : Option (List Entry)) → NamesOpened (length core) event → on_event event core ≡ (after, outs)
+    → IfSome old (WasGiven event core) → slice ≡ outs → new ≡ logged slice old → IfSome new (StandsFor after)
+stood event core after outs slice old new names e given same put =
+    let all : new ≡ logged outs old = put ∙ ap (λ (os : List Out). logged os old) same in
+    subst (λ (l : Option (List Entry)). IfSome l (StandsFor after)) (sym all) (logged-stands event core after outs old names e given)
+
+inputs-onto : (outs : List Out) (h : List Entry) → inputs (onto outs h) ≡ inputs h
+inputs-onto [] h = refl
+inputs-onto (Send n to frame ∷ outs) h = inputs-onto outs (Put n to frame ∷ h)
+inputs-onto (Close n ∷ outs) h = inputs-onto outs (End n ∷ h)
+
+pub carried-put : {A E : Type 0} (r : Result A E) (slice : List Out) (old new : Option (List Entry))
+    → OnOk r (new ≡ logged slice old) → OnErr r ((n : ℕ) × (new ≡ logged (take n slice) old)) → (outs : List Out) × (new ≡ logged outs old)
+carried-put (Ok x) slice old new ok err = (slice, ok)
+carried-put (Err x) slice old new ok err = (take err.0 slice, err.1)
+
+-- one event more that is not Stop
+pub ran-on : (first now : Option (List Entry)) (turns : ℕ) (event : Event) (outs : List Out) → Ran first now turns → (IsStop event → ⊥) → Ran first (logged outs (longer (Given event) now)) (turns + 1)
+ran-on None None turns event outs ran not_stop = refl
+ran-on None (Some k) turns event outs ran not_stop = absurd cc
+ran-on (Some h) None turns event outs ran not_stop = absurd ran
+ran-on (Some h) (Some k) turns event outs ran not_stop =
+    let e : inputs (onto outs (Given event ∷ k)) ≡ event ∷ inputs k = inputs-onto outs (Given event ∷ k) in (
+      ap length e ∙ (let n : suc (length (inputs k)) ≡ length (inputs h) + (turns + 1) = omega (arith, ran.0) in n),
+      λ none. subst NoStop (sym e) (not_stop, ran.1 none),
+    )
+
+pub ran-to_stop : (first now : Option (List Entry)) (turns : ℕ) (event : Event) (outs : List Out) → Ran first now turns → IsStop event → RanToStop first (logged outs (longer (Given event) now))
+ran-to_stop None None turns event outs ran stop = refl
+ran-to_stop None (Some k) turns event outs ran stop = absurd cc
+ran-to_stop (Some h) None turns event outs ran stop = absurd ran
+ran-to_stop (Some h) (Some k) turns event outs ran stop =
+    let e : inputs (onto outs (Given event ∷ k)) ≡ event ∷ inputs k = inputs-onto outs (Given event ∷ k) in
+    λ none. subst StopsNow (sym e) (stop, ran.1 none)

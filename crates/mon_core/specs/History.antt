@@ -1,0 +1,158 @@
+-- What the history says of each session, what is owed to it, and which histories are legal. The newest entry is first.
+use Rattle.std.specs.Prelude.{◌≡◌, ℕ, ◌+◌, ◌<◌, Bool, true, false, List, [], ◌∷◌, ◌++◌, length, slice_index_or, slice_set, Option, Some, None, if◌then◌else◌}
+use Rattle.of_frame.specs.declared.fault.FrameFault.{FrameFault}
+use Rattle.of_frame.specs.Cut.{Pending, nothing_yet, cut}
+use Rattle.mon_world.specs.declared.event.Side.{Side}
+use Rattle.mon_world.specs.declared.event.Side.TheVariants.{Controller, Switch}
+use Rattle.mon_world.specs.declared.event.Event.{Event}
+use Rattle.mon_world.specs.declared.event.Event.TheVariants.{Opened, Piece, Stop}
+use Rattle.mon_world.specs.declared.event.Out.{Out}
+use Rattle.mon_world.specs.declared.event.Out.TheVariants.{Send, Close}
+use Rattle.mon_world.specs.declared.history.Entry.{Entry}
+use Rattle.mon_world.specs.declared.history.Entry.TheVariants.{Given, Put, End}
+use Rattle.mon_world.specs.Logs.{entry_of, inputs, opened_in, NoStop, StopsNow}
+
+-- what has come of both sides of a session, and whether it ended
+pub record Sides : Type 0 where
+  pub controller : Pending
+  pub switch : Pending
+  pub ended : Bool
+
+abbrev pub fresh : Sides
+fresh = record { controller = nothing_yet; switch = nothing_yet; ended = false }
+
+abbrev pub pending_of : Sides → Side → Pending
+pending_of sides Controller = sides.controller
+pending_of sides Switch = sides.switch
+
+abbrev pub with_pending : Sides → Side → Pending → Sides
+with_pending sides Controller pending = record sides { controller = pending }
+with_pending sides Switch pending = record sides { switch = pending }
+
+abbrev pub other : Side → Side
+other Controller = Switch
+other Switch = Controller
+
+-- a piece came
+abbrev pub after_piece : Sides → Side → List ℕ → Sides
+after_piece sides side bytes = if sides.ended then sides else with_pending sides side (cut (pending_of sides side) bytes).0
+
+abbrev pub closed : Sides → Sides
+closed sides = record sides { ended = true }
+
+abbrev pub session_at : List Sides → ℕ → Sides
+session_at sessions n = slice_index_or sessions n fresh
+
+-- the sessions in the order of their openings
+abbrev pub sessions : List Entry → List Sides
+sessions [] = []
+sessions (Given Opened ∷ h) = sessions h ++ fresh ∷ []
+sessions (Given (Piece n side bytes) ∷ h) = slice_set (sessions h) n (after_piece (session_at (sessions h) n) side bytes)
+sessions (Given Stop ∷ h) = sessions h
+sessions (Put n to frame ∷ h) = sessions h
+sessions (End n ∷ h) = slice_set (sessions h) n (closed (session_at (sessions h) n))
+
+abbrev pub sent : ℕ → Side → List (List ℕ) → List Out
+sent n to [] = []
+sent n to (frame ∷ frames) = Send n to frame ∷ sent n to frames
+
+abbrev pub ending : ℕ → Option FrameFault → List Out
+ending n None = []
+ending n (Some fault) = Close n ∷ []
+
+-- what a piece leads to: each frame that it completes goes to the other side, and a fault ends the session
+abbrev pub from_piece : ℕ → Sides → Side → List ℕ → List Out
+from_piece n sides side bytes =
+    if sides.ended then []
+    else (let found = cut (pending_of sides side) bytes in sent n (other side) found.1 ++ ending n found.0.fault)
+
+-- a session with a fault ends
+abbrev pub closed_if : Option FrameFault → Sides → Sides
+closed_if None sides = sides
+closed_if (Some fault) sides = closed sides
+
+-- the session after a piece and all that it leads to
+abbrev pub after_turn : Sides → Side → List ℕ → Sides
+after_turn sides side bytes =
+    if sides.ended then sides
+    else (let found = cut (pending_of sides side) bytes in closed_if found.0.fault (with_pending sides side found.0))
+
+-- what a turn makes of the state: the state after the event and what is put out, in order.
+unfoldable pub on_event : Event → List Sides → List Sides × List Out
+on_event Opened core = (core ++ fresh ∷ [], [])
+on_event (Piece n side bytes) core =
+    let session = session_at core n in
+    (slice_set core n (after_turn session side bytes), from_piece n session side bytes)
+on_event Stop core = (core, [])
+
+abbrev pub rest_of : List Out → List Out
+rest_of [] = []
+rest_of (out ∷ outs) = outs
+
+-- what is still to be put out in the turn
+abbrev pub owed : List Entry → List Out
+owed [] = []
+owed (Given Opened ∷ h) = []
+owed (Given (Piece n side bytes) ∷ h) = from_piece n (session_at (sessions h) n) side bytes
+owed (Given Stop ∷ h) = []
+owed (Put n to frame ∷ h) = rest_of (owed h)
+owed (End n ∷ h) = rest_of (owed h)
+
+abbrev pub IsFirst : Out → List Out → Type 0
+IsFirst out [] = ⊥
+IsFirst out (first ∷ outs) = first ≡ out
+
+-- each output was owed as it was put, and each input came when nothing was owed
+abbrev pub LegalSoFar : List Entry → Type 0
+LegalSoFar [] = Unit {0}
+LegalSoFar (Given event ∷ h) = (owed h ≡ []) × LegalSoFar h
+LegalSoFar (Put n to frame ∷ h) = IsFirst (Send n to frame) (owed h) × LegalSoFar h
+LegalSoFar (End n ∷ h) = IsFirst (Close n) (owed h) × LegalSoFar h
+
+-- each turn is whole too
+pub record Legal (h : List Entry) : Type 0 where
+  pub so_far : LegalSoFar h
+  pub whole : owed h ≡ []
+
+-- each piece names a session that was opened
+abbrev pub Named : List Entry → Type 0
+Named [] = Unit {0}
+Named (Given Opened ∷ h) = Named h
+Named (Given (Piece m from bytes) ∷ h) = (m < opened_in h) × Named h
+Named (Given Stop ∷ h) = Named h
+Named (Put m to frame ∷ h) = Named h
+Named (End m ∷ h) = Named h
+
+-- the core's state is the one that a legal history gives
+pub record StandsFor (core : List Sides) (h : List Entry) : Type 0 where
+  pub state : core ≡ sessions h
+  pub legal : Legal h
+  pub named : Named h
+
+-- the event is the last that was given, and the core stands for what was before it
+abbrev pub WasGiven : Event → List Sides → List Entry → Type 0
+WasGiven event core [] = ⊥
+WasGiven event core (Given last ∷ h) = (last ≡ event) × StandsFor core h
+WasGiven event core (Put n to frame ∷ h) = ⊥
+WasGiven event core (End n ∷ h) = ⊥
+
+-- the outputs on a history, in order
+abbrev pub onto : List Out → List Entry → List Entry
+onto [] h = h
+onto (out ∷ outs) h = onto outs (entry_of out ∷ h)
+
+abbrev pub logged : List Out → Option (List Entry) → Option (List Entry)
+logged outs None = None
+logged outs (Some h) = Some (onto outs h)
+
+-- from the first log to the log now so many events came, none of them Stop
+abbrev pub Ran : Option (List Entry) → Option (List Entry) → ℕ → Type 0
+Ran None now turns = now ≡ None
+Ran (Some h) None turns = ⊥
+Ran (Some h) (Some k) turns = (length (inputs k) ≡ length (inputs h) + turns) × (NoStop (inputs h) → NoStop (inputs k))
+
+-- from the first log to the log now, the last event and no other was Stop
+abbrev pub RanToStop : Option (List Entry) → Option (List Entry) → Type 0
+RanToStop None now = now ≡ None
+RanToStop (Some h) None = ⊥
+RanToStop (Some h) (Some k) = NoStop (inputs h) → StopsNow (inputs k)

@@ -1,0 +1,7 @@
+pub mod Identities
+pub mod Placing
+pub mod Keeping
+pub mod Listing
+pub mod Members
+pub mod Slicing
+pub mod Undoing

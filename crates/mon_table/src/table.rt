@@ -1,0 +1,207 @@
+//! The table: a sorted vector.
+
+ghost use Rattle.std.specs.Prelude.{◌≡◌, ◌<◌, ◌≤◌, ◌^◌, [], length, slice_index_or, IsTrue, IfOk, OnOk, OnErr};
+ghost use Rattle.std.specs.List.{position};
+ghost use Rattle.mon_header.specs.Matching.{IsNormal};
+ghost use Rattle.mon_table.specs.Rules.{identity, identity_of, same_identity};
+ghost use Rattle.mon_table.specs.Tables.{IsTable, InOrder, rule_of, without, with_rule, places, is_named, slice, tied};
+ghost use Rattle.mon_table.specs.Winners.{wins};
+ghost use Rattle.mon_table.specs.Places.{place_of, stands_at, top_rank, is_at_rank};
+
+use crate::rule::Rule;
+use mon_header::{Header, Match, OutOfMemory, covers, effective, matches, overlaps};
+use std::alloc::Global;
+use std::marker::Model;
+use std::mem;
+
+/// Rules in table order, no two of one identity.
+#[derive(Drop)]
+pub struct Table {
+    rules: Vec<Rule>,
+}
+
+impl Model for Table {
+    ghost use Rattle.std.specs.Prelude.{List, length, ◌<◌, ◌^◌};
+    ghost use Rattle.mon_table.specs.declared.rule.Rule.{Rule};
+
+    ghost Value = { List Rule };
+
+    ghost use Rattle.mon_table.specs.Tables.{IsTable};
+
+    ghost view = { λ t. t.rules.items };
+
+    ghost invariant = { λ t. IsTable t.rules.items × (length t.rules.items < 2 ^ 32) };
+}
+
+impl Table {
+    /// The empty table. It takes no memory yet.
+    pub fn new(alloc: Global) -> Table
+        ensures { result ≡ [] }
+    {
+        Table {
+            rules: Vec::new(alloc),
+        }
+    }
+
+    /// The number of rules.
+    pub fn len(&self) -> u32
+        ensures value { result ≡ length self.now }
+        ensures table { IsTable self.now }
+    {
+        self.rules.len() as u32
+    }
+
+    /// The rule at a place, counted from 0 in table order.
+    pub fn rule(&self, place: u32) -> &Rule
+        requires { place < length self.now }
+        ensures { result.now ≡ slice_index_or self.now place result.now }
+    {
+        &self.rules[place as usize]
+    }
+
+    /// The place of the rule with this match and this effective priority, or None where there is none.
+    pub fn place(&self, m: &Match, priority: u16) -> Option<u32>
+        ensures { result ≡ position (λ r. same_identity (identity_of r) (identity m.now priority)) self.now }
+    {
+        let rank = effective(m, priority);
+        let place = search(&self.rules, m, rank);
+        if stands_at(&self.rules, place, m, rank) {
+            return Some(place as u32);
+        }
+        None
+    }
+
+    /// Puts a rule in its place, and gives the rule of its identity that it replaces. An error changes nothing.
+    pub fn put(&mut self, rule: Rule) -> Result<Option<Rule>, OutOfMemory>
+        ensures put { OnOk result (self.new ≡ with_rule rule self.old) }
+        ensures old { IfOk result (λ old. old ≡ rule_of (identity_of rule) self.old) }
+        ensures same { OnErr result (self.new ≡ self.old) }
+    {
+        let rank = rule.rank();
+        let place = search(&self.rules, &rule.matching, rank);
+        if stands_at(&self.rules, place, &rule.matching, rank) {
+            let old = mem::replace(&mut self.rules[place], rule);
+            return Ok(Some(old));
+        }
+        // A place is a `u32`: more rules have no place, long before memory ends.
+        if self.rules.len() >= u32::MAX as usize {
+            return Err(OutOfMemory);
+        }
+        self.rules.insert(place, rule)?;
+        Ok(None)
+    }
+
+    /// Takes out the rule with this match and this effective priority, and gives it. An error changes nothing.
+    pub fn cut(&mut self, m: &Match, priority: u16) -> Result<Option<Rule>, OutOfMemory>
+        ensures cut { OnOk result (self.new ≡ without (identity m.now priority) self.old) }
+        ensures old { IfOk result (λ old. old ≡ rule_of (identity m.now priority) self.old) }
+        ensures same { OnErr result (self.new ≡ self.old) }
+    {
+        let rank = effective(m, priority);
+        let place = search(&self.rules, m, rank);
+        if stands_at(&self.rules, place, m, rank) {
+            return Ok(Some(self.rules.remove(place)));
+        }
+        Ok(None)
+    }
+
+    /// The places of the rules whose match is covered, rising.
+    pub fn named(&self, alloc: Global, m: &Match) -> Result<Vec<u32>, OutOfMemory>
+        ensures { IfOk result (λ named. named.items ≡ places (is_named m.now) self.now) }
+    {
+        let mut named = Vec::new(alloc);
+        for (place, rule) in self.rules.iter().enumerate() {
+            if covers(m, &rule.matching) {
+                named.push(place as u32)?;
+            }
+        }
+        Ok(named)
+    }
+
+    /// The places of the rules that win for a header, rising: those that match it and whose effective priority no rule
+    /// that matches exceeds.
+    pub fn winners(&self, alloc: Global, h: &Header) -> Result<Vec<u32>, OutOfMemory>
+        ensures { IfOk result (λ found. found.items ≡ places (wins self.now h.now) self.now) }
+    {
+        match top_rank(&self.rules, h) {
+            Some(top) => places_at_rank(alloc, &self.rules, h, top),
+            None => Ok(Vec::new(alloc)),
+        }
+    }
+
+    /// The rules that overlap a match.
+    pub fn slice(&self, alloc: Global, m: &Match) -> Result<Table, OutOfMemory>
+        ensures { IfOk result (λ part. part ≡ slice m.now self.now) }
+    {
+        let mut rules = Vec::new(alloc);
+        for rule in &self.rules {
+            if overlaps(m, &rule.matching) {
+                rules.push(rule.copied(alloc)?)?;
+            }
+        }
+        Ok(Table { rules })
+    }
+
+    /// Whether a rule of another identity and the same effective priority overlaps the rule.
+    pub fn tied(&self, rule: &Rule) -> bool
+        ensures { result ≡ tied self.now rule.now }
+    {
+        self.rules.iter().any(|other| rule.ties(other))
+    }
+}
+
+/// Whether a rule of this match and this effective priority stands at the place.
+fn stands_at(rules: &[Rule], place: usize, m: &Match, rank: u32) -> bool
+    ensures value { result ≡ stands_at (record { rank = rank; matching = m.now }) place rules.now }
+    ensures within { IsTrue result → place < length rules.now }
+{
+    place < rules.len() && rules[place].has_identity(m, rank)
+}
+
+/// The number of rules that stand before a rule of this match and this effective priority, by halves.
+fn search(rules: &[Rule], m: &Match, rank: u32) -> usize
+    requires { InOrder rules.now }
+    ensures value { result ≡ place_of (record { rank = rank; matching = m.now }) rules.now }
+    ensures within { result ≤ length rules.now }
+    ensures normal { IsNormal m.now }
+{
+    // Only a look at the match shows that it is in its normal form, by which other identities stand apart.
+    let _ = m.wild();
+    rules.partition_point(|rule| rule.comes_before(m, rank))
+}
+
+/// The effective priority of the first rule that matches the header.
+fn top_rank(rules: &[Rule], h: &Header) -> Option<u32>
+    ensures { result ≡ top_rank h.now rules.now }
+{
+    for rule in rules {
+        if matches(&rule.matching, h) {
+            return Some(rule.rank());
+        }
+    }
+    None
+}
+
+/// The places of the rules of one effective priority that match the header. Lower ones are not looked at.
+fn places_at_rank(
+    alloc: Global,
+    rules: &[Rule],
+    h: &Header,
+    top: u32,
+) -> Result<Vec<u32>, OutOfMemory>
+    requires order { InOrder rules.now }
+    requires few { length rules.now < 2 ^ 32 }
+    ensures { IfOk result (λ found. found.items ≡ places (is_at_rank h.now top) rules.now) }
+{
+    let mut found = Vec::new(alloc);
+    for (place, rule) in rules.iter().enumerate() {
+        let rank = rule.rank();
+        if rank < top {
+            return Ok(found);
+        }
+        if rank == top && matches(&rule.matching, h) {
+            found.push(place as u32)?;
+        }
+    }
+    Ok(found)
+}

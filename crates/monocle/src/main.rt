@@ -1,0 +1,50 @@
+//! `monocle`, a monitor of data-plane rules: the program.
+//!
+//! `replay SETTINGS TRACE` passes the session of a trace through and writes what was put. `main` makes the desk over
+//! files and the standard streams, and calls `monocle`, whose contract is what is promised of a run.
+#![tactic(auto)]
+
+mod replay;
+mod standard;
+#[cfg(test)]
+mod tests;
+mod words;
+
+use crate::replay::refused;
+use crate::standard::StdDesk;
+use crate::words::monocle;
+use mon_world::{OutOfMemory, Text};
+use std::alloc::Global;
+use std::process::ExitCode;
+use std::rt::Env;
+use std::{env, io};
+
+/// The words of the command line. Where one is not text there are none, which is a wrong command line.
+fn words_of<R: Env + Alloc<A = Global>>(rt: &R) -> Result<Vec<Text>, OutOfMemory> {
+    let alloc = rt.alloc();
+    let mut words = Vec::new(alloc);
+    let all = match env::args(rt) {
+        Ok(all) => all,
+        Err(error) => {
+            if error.kind() == io::ErrorKind::OutOfMemory {
+                return Err(OutOfMemory);
+            }
+            return Ok(words);
+        }
+    };
+    for word in all.skip(1) {
+        let text = Text::new(alloc, word.as_str())?;
+        words.push(text)?;
+    }
+    Ok(words)
+}
+
+fn main(rt: HostRuntime) -> ExitCode {
+    let alloc = rt.alloc();
+    let words = words_of(&rt);
+    let mut desk = StdDesk::new(rt);
+    match words {
+        Ok(words) => ExitCode::from(monocle(alloc, &words, &mut desk)),
+        Err(_) => ExitCode::from(refused(alloc, &mut desk, 7, b"monocle: out of memory\n")),
+    }
+}
