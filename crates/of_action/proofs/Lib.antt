@@ -1,3 +1,4 @@
 pub mod Front
 pub mod Loop
 pub mod RoundTrip
+pub mod FirstFault

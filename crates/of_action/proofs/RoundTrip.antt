@@ -30,7 +30,7 @@ not_faulty all len kind least within whole right =
     rw (le-ltb all 4 (omega arith), ne_eqb len 0 (omega arith), whole, le-ltb all len within, right) refl
 
 -- a whole action is not faulty, whatever stands behind it
-whole_not_faulty : (bytes rest : List ℕ) → IsAction bytes → is_faulty (bytes ++ rest) ≡ false
+pub whole_not_faulty : (bytes rest : List ℕ) → IsAction bytes → is_faulty (bytes ++ rest) ≡ false
 unfolding is_faulty
 whole_not_faulty bytes rest p =
     let all = length-append bytes rest in

@@ -1,5 +1,5 @@
 -- Reading actions from left to right, up to the first place where an action is faulty.
-use Rattle.std.specs.Prelude.{◌≡◌, ℕ, zero, suc, ◌-◌, ◌%◌, ◌≤◌, Bool, true, not, nat_lt, ◌==◌, ◌||◌, if◌then◌else◌, List, [], ◌∷◌, length, take, drop, slice_index, Result, Ok, Err}
+use Rattle.std.specs.Prelude.{◌≡◌, ℕ, zero, suc, ◌-◌, ◌%◌, ◌<◌, ◌≤◌, Bool, true, not, nat_lt, ◌==◌, ◌||◌, if◌then◌else◌, List, [], ◌∷◌, length, take, drop, slice_index, Result, Ok, Err}
 use Rattle.byteorder.specs.Endian.{big_number}
 use Rattle.mon_header.specs.declared.action.Action.{Action}
 use Rattle.mon_header.specs.declared.action.Action.TheVariants.{Output, SetVlanVid, SetVlanPcp, StripVlan, SetDlSrc, SetDlDst, SetNwSrc, SetNwDst, SetNwTos, SetTpSrc, SetTpDst, Enqueue, Unknown}
@@ -75,6 +75,13 @@ actions_from place zero (byte ∷ bytes) =
 -- the actions of all the bytes, or the place of the first faulty one
 abbrev pub actions_of : List ℕ → Result (List Action) ℕ
 actions_of bytes = actions_from 0 0 bytes
+
+-- the first faulty place: whole actions fill what stands before it, and none stands there
+pub record IsFirstFault (bytes : List ℕ) (place : ℕ) : Type 0 where
+  pub within : place < length bytes
+  pub faulty : is_faulty (drop place bytes) ≡ true
+  pub actions : List Action
+  pub whole : actions_of (take place bytes) ≡ Ok actions
 
 -- what a function answers is what reading gives, unless memory ran out
 abbrev pub Reads : Result (List Action) ActionFault → Result (List Action) ℕ → Type 0

@@ -13,6 +13,7 @@ pub enum ActionFault {
     /// length is wrong (OpenFlow 1.0.0, error type BAD_ACTION, code BAD_LEN).
     #[error("wrong length of the action at byte {place}")]
     ActionLength { place: u64 },
+    /// No memory was left.
     #[error("out of memory")]
     OutOfMemory,
 }

@@ -1,11 +1,8 @@
 //! Actions to bytes.
 
-ghost use Rattle.std.specs.Prelude.{◌≡◌, ◌++◌, ◌∷◌, IfOk, OnOk, List};
+ghost use Rattle.std.specs.Prelude.{◌≡◌, ◌++◌, ◌∷◌, IfOk, OnOk};
 ghost use Rattle.byteorder.specs.Endian.{big_bytes};
-ghost use Rattle.mon_header.specs.declared.action.Action.{Action};
-ghost use Rattle.mon_header.specs.Actions.{AllFit};
 ghost use Rattle.of_action.specs.Layout.{pad, spelled_as, spelled_action, spelled};
-ghost use Rattle.of_action.specs.Reading.{actions_of};
 
 use mon_header::{Action, Actions};
 use mon_list::OutOfMemory;
@@ -89,8 +86,3 @@ pub fn write_actions(alloc: Global, actions: &Actions) -> Result<Vec<u8>, OutOfM
     }
     Ok(out)
 }
-
-/// What is written is read back: the same actions, in the same order.
-pub fn written_is_read()
-    ensures { (actions : List Action) → AllFit actions → actions_of (spelled actions) ≡ Ok actions }
-{}

@@ -6,10 +6,15 @@ ghost use Rattle.of_msgs.specs.FlowMods.{command_number};
 /// What a FLOW_MOD does to the flow table (OpenFlow 1.0.0, modify flow entry message).
 #[derive(Clone, Copy, Debug, PartialEq, Eq)]
 pub enum Command {
+    /// Adds an entry, in place of one with the same match and priority.
     Add,
+    /// Changes the actions of all entries that the match covers, or adds one.
     Modify,
+    /// Changes the actions of the entry with this match and priority, or adds it.
     ModifyStrict,
+    /// Deletes all entries that the match covers.
     Delete,
+    /// Deletes the entry with this match and priority.
     DeleteStrict,
 }
 

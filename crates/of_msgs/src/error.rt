@@ -17,8 +17,11 @@ const KEPT: usize = 64;
 /// An ERROR (OpenFlow 1.0.0, error message): its type, its code, and the bytes of what failed.
 #[derive(Clone, Copy)]
 pub struct ErrorMsg<'a> {
+    /// The type, which says what kind of request failed.
     pub kind: u16,
+    /// The code, which says why; its meaning is the type's.
     pub code: u16,
+    /// Bytes of what failed, mostly its first 64.
     pub content: &'a [u8],
 }
 

@@ -22,6 +22,7 @@ pub enum ModFault {
     /// length is wrong (error type BAD_ACTION, code BAD_LEN).
     #[error("wrong length of the action at byte {place}")]
     ActionLength { place: u64 },
+    /// No memory was left.
     #[error("out of memory")]
     OutOfMemory,
 }

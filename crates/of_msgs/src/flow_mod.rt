@@ -12,24 +12,37 @@ use mon_list::Items;
 /// The bytes of actions as a message had them.
 pub type RawActions = Items<u8>;
 
-/// A FLOW_MOD (OpenFlow 1.0.0, modify flow entry message). `spelled` and `raw` are the message's own bytes of its match
-/// and its actions, and `matching` and `actions` are what they mean.
+/// A FLOW_MOD (OpenFlow 1.0.0, modify flow entry message).
+///
+/// The type keeps that `raw` has at most 65,463 bytes, so that the message fits a frame, that `matching` is what
+/// `spelled` means, and that `actions` are what `raw` means.
 #[derive(Drop)]
 pub struct FlowMod {
+    /// The transaction id.
     pub xid: u32,
+    /// The match as the message has it, with unused wildcard bits and fields that are not compared.
     pub spelled: [u8; 40],
+    /// The match in its normalised form.
     pub matching: Match,
+    /// A number that the controller chose for the entry.
     pub cookie: u64,
+    /// What is done.
     pub command: Command,
     /// Seconds without a matching packet after which the entry goes; 0 means never.
     pub idle: u16,
     /// Seconds after which the entry goes; 0 means never.
     pub hard: u16,
+    /// The priority field. It says nothing of an entry without wildcards.
     pub priority: u16,
+    /// A buffered packet to which the actions apply, or `NO_BUFFER`.
     pub buffer: u32,
+    /// A port to which an entry must output to be deleted, or `ports::NONE`.
     pub out_port: u16,
+    /// Flags of the module `flags`.
     pub flags: u16,
+    /// The actions.
     pub actions: Actions,
+    /// The actions as the message has them, pads included.
     pub raw: RawActions,
     ghost short: { length raw ≤ 65463 },
     ghost matched: { matching ≡ match_of spelled } by { Coded-set matching-code matching (match_of spelled) },

@@ -16,12 +16,14 @@ pub const OWN_XID: u32 = 0x4d6f_6e6f;
 /// The number that names no buffer of a switch.
 pub const NO_BUFFER: u32 = 0xffff_ffff;
 
-/// A PACKET_IN (OpenFlow 1.0.0, packet-in message): the port at which the packet came, why the switch sends it, and as
-/// many of its bytes as the switch sent.
+/// A PACKET_IN (OpenFlow 1.0.0, packet-in message), but for its buffer and the whole packet's length.
 #[derive(Clone, Copy)]
 pub struct PacketIn<'a> {
+    /// The port at which the packet came.
     pub in_port: u16,
+    /// Why the switch sends it, a number of the module `reasons`.
     pub reason: u8,
+    /// As many bytes of the packet as the switch sent.
     pub content: &'a [u8],
 }
 

@@ -1,5 +1,5 @@
 use Rattle.of_action.proofs.RoundTrip.{again}
-use Rattle.of_action.proofs.writing.written_is_read.Goals as goal
+use Rattle.of_action.proofs.laws.written_is_read.Goals as goal
 
 pub returns : goal.returns
 returns c = again
