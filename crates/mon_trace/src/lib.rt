@@ -7,6 +7,7 @@ mod grammar;
 mod hexadecimal;
 mod hub;
 mod lines;
+mod outputs;
 mod printing;
 
 pub use fault::TraceFault;
