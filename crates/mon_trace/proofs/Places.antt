@@ -12,7 +12,8 @@ use Rattle.mon_trace.specs.declared.events.Place.{Place}
 use Rattle.mon_trace.specs.declared.events.Place.TheVariants.{Opening, Bytes}
 use Rattle.mon_trace.specs.Places.{event_of, events_at, IsWithin, AllWithin}
 use Rattle.mon_trace.specs.Run.{event_at}
-use Rattle.mon_trace.specs.Grammar.{onto, one, piece_of}
+use Rattle.mon_trace.specs.Grammar.{piece_of}
+use Rattle.mon_trace.specs.Reading.{onto, one}
 
 pub events_at-append : (bytes : List ℕ) (places more : List Place) → events_at bytes (places ++ more) ≡ events_at bytes places ++ events_at bytes more
 events_at-append bytes [] more = refl

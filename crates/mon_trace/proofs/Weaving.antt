@@ -10,7 +10,8 @@ use Rattle.mon_world.specs.declared.event.Out.TheVariants.{Send, Close}
 use Rattle.mon_world.specs.declared.history.Entry.{Entry}
 use Rattle.mon_world.specs.declared.history.Entry.TheVariants.{Given}
 use Rattle.mon_world.specs.Logs.{inputs, opened_in, opened_by, entry_of, AllNamed, NamesOpened}
-use Rattle.mon_trace.specs.Run.{IsRun, InOrder, woven, given_from, event_at, line_of, text}
+use Rattle.mon_trace.specs.Run.{event_at, line_of, text}
+use Rattle.mon_trace.specs.Woven.{IsRun, InOrder, woven, given_from}
 
 given_more : (events : List Event) (from n : ℕ) → from ≤ n → given_from events from (suc n) ≡ Given (event_at events n) ∷ given_from events from n
 given_more events from n le = ap (λ (b : Bool). cond b (Given (event_at events n) ∷ given_from events from n) []) (le-leb from n le)

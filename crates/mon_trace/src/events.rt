@@ -5,7 +5,8 @@
 
 ghost use Rattle.std.specs.Prelude.{◌≡◌, ◌+◌, ◌<◌, ◌≤◌, ◌++◌, ◌∷◌, ◌^◌, [], length, take, drop, slice_index_or, IfOk, OnOk, MatchOption};
 ghost use Rattle.mon_world.specs.declared.event.Event.TheVariants.{Opened};
-ghost use Rattle.mon_trace.specs.Grammar.{Reads, onto, one, piece_of};
+ghost use Rattle.mon_trace.specs.Grammar.{Reads, piece_of};
+ghost use Rattle.mon_trace.specs.Reading.{onto, one};
 ghost use Rattle.mon_trace.specs.Hex.{unhex};
 ghost use Rattle.mon_trace.specs.Run.{event_at};
 

@@ -28,7 +28,8 @@ pub struct TraceHub {
 impl Model for TraceHub {
     ghost use Rattle.mon_trace.specs.Grammar.{Traced};
     ghost use Rattle.mon_trace.specs.Outputs.{lines_text};
-    ghost use Rattle.mon_trace.specs.Run.{Running, InOrder, IsRun, woven};
+    ghost use Rattle.mon_trace.specs.Run.{Running};
+    ghost use Rattle.mon_trace.specs.Woven.{InOrder, IsRun, woven};
 
     ghost Value = { Running };
 

@@ -9,6 +9,8 @@ mod hub;
 mod lines;
 mod outputs;
 mod printing;
+#[cfg(test)]
+mod tests;
 
 pub use fault::TraceFault;
 pub use grammar::{Trace, read_trace};

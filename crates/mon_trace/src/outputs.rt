@@ -3,8 +3,9 @@
 //! The line of an output is written when it comes, so nothing is left to write at the end. Beside the text an output is
 //! kept as the number of inputs before it and the place of its digits: its bytes are those that the digits say.
 
-ghost use Rattle.std.specs.Prelude.{◌≡◌, ◌<◌, ◌^◌, ◌∷◌, [], IfOk, OnOk, OnErr};
+ghost use Rattle.std.specs.Prelude.{◌≡◌, ◌<◌, ◌^◌, ◌∷◌, [], length, IfOk, OnOk, OnErr};
 ghost use Rattle.mon_trace.specs.Outputs.{lines_text, IsPlaceIn};
+ghost use Rattle.of_frame.specs.Header.{IsFrame};
 ghost use Rattle.mon_trace.specs.Run.{line_of};
 
 use crate::printing::{push_end, push_frame, push_head};
@@ -22,7 +23,7 @@ pub(crate) enum Output {
         session: u64,
         to: Side,
         start: usize,
-        size: usize,
+        size: u16,
     },
     /// The end of a session.
     Closing {
@@ -55,6 +56,14 @@ impl Model for Outputs {
     } };
 }
 
+/// How many bytes a frame has.
+fn size_of(frame: &[u8]) -> u16
+    requires { IsFrame frame.now }
+    ensures { result ≡ length frame.now }
+{
+    frame.len() as u16
+}
+
 /// Writes the line of an output in place of another line. The text behind which it is to stand has so many bytes.
 fn write_line(
     line: &mut Vec<u8>,
@@ -77,7 +86,7 @@ fn write_line(
                 session: *session,
                 to: *to,
                 start,
-                size: frame.bytes().len(),
+                size: size_of(frame.bytes()),
             })
         }
         Out::Close { session } => {

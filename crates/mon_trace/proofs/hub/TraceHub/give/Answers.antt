@@ -4,7 +4,8 @@ use Rattle.mon_world.specs.declared.history.Entry.{Entry}
 use Rattle.mon_world.specs.declared.history.Entry.TheVariants.{Given}
 use Rattle.mon_world.specs.Logs.{NamesOpened, opened_in}
 use Rattle.mon_trace.specs.Outputs.{lines_text}
-use Rattle.mon_trace.specs.Run.{Running, InOrder, IsRun, event_at, woven}
+use Rattle.mon_trace.specs.Run.{Running, event_at}
+use Rattle.mon_trace.specs.Woven.{InOrder, IsRun, woven}
 use Rattle.mon_trace.proofs.Weaving.{woven_given, in_order_more, run_given, run_named}
 use Rattle.mon_trace.proofs.hub.TraceHub.give.Goals as goal
 

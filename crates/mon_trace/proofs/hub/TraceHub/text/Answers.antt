@@ -2,7 +2,8 @@ use Rattle.std.proofs.Common.{◌≡◌, ◌≤◌, ◌∷◌, length, subst}
 use Rattle.std.specs.Prelude.{reverse}
 use Rattle.mon_world.specs.declared.event.Event.TheVariants.{Stop}
 use Rattle.mon_world.specs.Logs.{inputs, StopsNow, NoStop}
-use Rattle.mon_trace.specs.Run.{Running, woven}
+use Rattle.mon_trace.specs.Run.{Running}
+use Rattle.mon_trace.specs.Woven.{woven}
 use Rattle.mon_trace.proofs.Whole.{whole, few}
 use Rattle.mon_trace.proofs.hub.TraceHub.text.Goals as goal
 
