@@ -17,6 +17,9 @@ use mon_world::{Event, Piece, Side};
 use std::alloc::{AllocError, Global};
 use std::marker::Model;
 
+/// The most bytes of a piece.
+const LARGEST_PIECE: usize = 4096;
+
 /// An event: the opening of a session, or where the bytes of a piece stand.
 #[derive(Clone, Copy)]
 pub(crate) enum Place {
@@ -77,7 +80,7 @@ impl Events {
         let start = self.bytes.len();
         push_bytes(digits, &mut self.bytes)?;
         let size = self.bytes.len() - start;
-        if size == 0 || size > 4096 {
+        if size == 0 || size > LARGEST_PIECE {
             return Err(TraceFault::BadTrace);
         }
         self.places.push(Place::Bytes {

@@ -16,7 +16,8 @@ use std::marker::Model;
 
 /// Gives the events of a trace in order and then Stop for ever, and writes a line for each output.
 ///
-/// Its log needs no copy of the events: the inputs so far are the first events of the trace.
+/// Its log needs no copy of the events: the inputs so far are the first events of the trace. No call of it fails but for
+/// want of memory, and then it is as it was.
 #[derive(Drop)]
 pub struct TraceHub {
     trace: Trace,
