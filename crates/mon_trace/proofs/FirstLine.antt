@@ -2,7 +2,8 @@
 use Rattle.std.proofs.Common.{◌≡◌, ℕ, zero, suc, ◌+◌, ◌<◌, ◌≤◌, Bool, true, false, cond, List, [], ◌∷◌, length, take, drop, Option, Some, None, refl, sym, ap, subst, ◌∙◌, arith, add-one, nat_lt}
 use Rattle.std.specs.Prelude.{◌==◌, slice_index}
 use Rattle.memchr.specs.Find.{Nowhere, NoneBefore, IsFirstByte, Passes, is_byte}
-use Rattle.mon_trace.specs.Grammar.{lines_of, line_before, byte_before, FirstLine}
+use Rattle.mon_trace.specs.Grammar.{lines_of, line_before, byte_before}
+use Rattle.mon_trace.specs.Reading.{FirstLine}
 
 not_true : (b : Bool) → (b ≡ true → ⊥) → b ≡ false
 not_true true h = absurd (h refl)

@@ -1,6 +1,7 @@
+pub mod Decoding
 pub mod Digits
 pub mod FirstLine
 pub mod Named
 pub mod Places
-pub mod Taken
+pub mod Weaving
 pub mod Whole

@@ -12,7 +12,8 @@ use Rattle.mon_trace.specs.declared.events.Place.{Place}
 use Rattle.mon_trace.specs.declared.events.Place.TheVariants.{Opening, Bytes}
 use Rattle.mon_trace.specs.Places.{event_of, events_at, IsWithin, AllWithin}
 use Rattle.mon_trace.specs.Run.{event_at}
-use Rattle.mon_trace.specs.Grammar.{onto, one, piece_of}
+use Rattle.mon_trace.specs.Grammar.{piece_of}
+use Rattle.mon_trace.specs.Reading.{onto, one}
 
 pub events_at-append : (bytes : List ℕ) (places more : List Place) → events_at bytes (places ++ more) ≡ events_at bytes places ++ events_at bytes more
 events_at-append bytes [] more = refl
@@ -86,26 +87,6 @@ pushed_piece side (Some bytes) old new places size is all total some few =
     ap (λ (b : Bool). onto (events_at old places) (one (cond (b && nat_le (length bytes) 4096) (Some (Piece 0 side bytes)) None))) low
     ∙ ap (λ (b : Bool). onto (events_at old places) (one (cond b (Some (Piece 0 side bytes)) None))) high
     ∙ ap Some (ap (λ (es : List Event). es ++ Piece 0 side bytes ∷ []) (sym kept) ∙ ap (λ (e : Event). events_at new places ++ e ∷ []) (sym last) ∙ sym (events_at-append new places (place ∷ [])))
-
-pub refused_piece : (side : Side) (read : Option (List ℕ)) (old new : List ℕ) (events : List Event) (size : ℕ) → onto old read ≡ Some new → length old + size ≡ length new → (size ≡ 0) ⊎ (4096 < size) → onto events (one (piece_of side read)) ≡ None
-refused_piece side None old new events size is total out = refl
-refused_piece side (Some bytes) old new events size is total out =
-    let grown : old ++ bytes ≡ new = ap some_is is in
-    let sized : length bytes ≡ size = omega (arith, total, length-append old bytes, ap length grown) in
-    elim out as (λ _. onto events (one (piece_of side (Some bytes))) ≡ None) [
-      | inl none ↦
-          let low : nat_lt 0 (length bytes) ≡ false = le-ltb 0 (length bytes) (omega (arith, sized, none)) in
-          ap (λ (b : Bool). onto events (one (cond (b && nat_le (length bytes) 4096) (Some (Piece 0 side bytes)) None))) low
-      | inr many ↦
-          let low : nat_lt 0 (length bytes) ≡ true = lt-ltb 0 (length bytes) (omega (arith, sized, many)) in
-          let high : nat_le (length bytes) 4096 ≡ false = lt-leb (length bytes) 4096 (omega (arith, sized, many)) in
-          ap (λ (b : Bool). onto events (one (cond (b && nat_le (length bytes) 4096) (Some (Piece 0 side bytes)) None))) low
-          ∙ ap (λ (b : Bool). onto events (one (cond b (Some (Piece 0 side bytes)) None))) high
-    ]
-
-pub unread_piece : (side : Side) (read : Option (List ℕ)) (old : List ℕ) (events : List Event) → onto old read ≡ None → onto events (one (piece_of side read)) ≡ None
-unread_piece side None old events is = refl
-unread_piece side (Some bytes) old events is = absurd (subst HasNone (sym is) tt)
 
 pub kept : (total : ℕ) (places : List Place) (n : ℕ) (place : Place) → AllWithin total places → n < length places → place ≡ slice_index_or places n place → IsWithin total place
 kept total places n place all within is = subst (IsWithin total) (sym is) (within_at total places n place all within)

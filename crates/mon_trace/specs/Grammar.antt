@@ -1,5 +1,5 @@
 -- The text of a trace: a first line with the key, then nothing, or `open` and then pieces of session 0.
-use Rattle.std.specs.Prelude.{ℕ, ◌+◌, ◌<◌, Bool, List, [], ◌∷◌, ◌++◌, length, take, drop, Option, Some, None, Result, Ok, Err, ◌≡◌, ◌==◌, nat_lt, nat_le, nat_eq, ◌&&◌, codes, if◌then◌else◌}
+use Rattle.std.specs.Prelude.{ℕ, Bool, List, [], ◌∷◌, length, drop, Option, Some, None, Result, Ok, Err, ◌≡◌, ◌==◌, nat_lt, nat_le, nat_eq, ◌&&◌, codes, if◌then◌else◌}
 use Rattle.std.specs.List.{starts_with}
 use Rattle.byteorder.specs.Endian.{big_number}
 use Rattle.mon_world.specs.declared.event.Side.{Side}
@@ -30,11 +30,6 @@ byte_before byte (Some (line ∷ lines)) = Some ((byte ∷ line) ∷ lines)
 abbrev pub lines_of : List ℕ → Option (List (List ℕ))
 lines_of [] = Some []
 lines_of (byte ∷ bytes) = if byte == 10 then line_before [] (lines_of bytes) else byte_before byte (lines_of bytes)
-
--- what a search for a line feed says of the lines
-abbrev pub FirstLine : List ℕ → Option ℕ → Type 0
-FirstLine text None = lines_of text ≡ None
-FirstLine text (Some n) = (n < length text) × (lines_of text ≡ line_before (take n text) (lines_of (drop (n + 1) text)))
 
 -- sixteen digits are the eight bytes of the key, the highest first
 abbrev pub key_in : Option (List ℕ) → Option ℕ
@@ -106,21 +101,3 @@ abbrev pub Reads : {X Y : Type 0} → (X → Y) → Result X TraceFault → Opti
 Reads view (Ok x) said = said ≡ Some (view x)
 Reads view (Err BadTrace) said = said ≡ None
 Reads view (Err OutOfMemory) said = Unit {0}
-
--- what was read before, and what is still read
-abbrev pub onto : {A : Type 0} → List A → Option (List A) → Option (List A)
-onto front None = None
-onto front (Some more) = Some (front ++ more)
-
-abbrev pub one : Option Event → Option (List Event)
-one None = None
-one (Some event) = Some (event ∷ [])
-
--- the same where a line has no end
-abbrev pub events_in : Option (List (List ℕ)) → Option (List Event)
-events_in None = None
-events_in (Some lines) = events_of lines
-
-abbrev pub pieces_in : Option (List (List ℕ)) → Option (List Event)
-pieces_in None = None
-pieces_in (Some lines) = pieces_of lines

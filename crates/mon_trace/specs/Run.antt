@@ -1,5 +1,5 @@
 -- A run of a trace: what was given and taken, and its text.
-use Rattle.std.specs.Prelude.{ℕ, ◌≡◌, List, [], ◌∷◌, ◌++◌, length, min, drop, slice_index_or, codes, decimal}
+use Rattle.std.specs.Prelude.{ℕ, zero, suc, ◌≡◌, ◌≤◌, nat_le, if◌then◌else◌, List, [], ◌∷◌, ◌++◌, length, drop, slice_index_or, codes, decimal}
 use Rattle.mon_world.specs.declared.event.Side.{Side}
 use Rattle.mon_world.specs.declared.event.Side.TheVariants.{Controller, Switch}
 use Rattle.mon_world.specs.declared.event.Event.{Event}
@@ -8,7 +8,7 @@ use Rattle.mon_world.specs.declared.event.Out.{Out}
 use Rattle.mon_world.specs.declared.event.Out.TheVariants.{Send, Close}
 use Rattle.mon_world.specs.declared.history.Entry.{Entry}
 use Rattle.mon_world.specs.declared.history.Entry.TheVariants.{Given, Put, End}
-use Rattle.mon_world.specs.Logs.{inputs, opened_in, AllNamed}
+use Rattle.mon_world.specs.Logs.{inputs, opened_in, entry_of, AllNamed}
 use Rattle.mon_trace.specs.Hex.{hex}
 
 -- the n-th input of a run, counted from 0: those of the trace, and then Stop
@@ -25,9 +25,11 @@ side_name Controller = codes "controller"
 side_name Switch = codes "switch"
 
 -- a line begins with the number of the record that is handled
+abbrev pub put_head : ℕ → ℕ → Side → List ℕ
+put_head number session to = decimal number ++ (codes " put " ++ (decimal session ++ (codes " " ++ (side_name to ++ codes " "))))
+
 abbrev pub put_line : ℕ → ℕ → Side → List ℕ → List ℕ
-put_line number session to frame =
-    decimal number ++ (codes " put " ++ (decimal session ++ (codes " " ++ (side_name to ++ (codes " " ++ (hex frame ++ 10 ∷ []))))))
+put_line number session to frame = put_head number session to ++ (hex frame ++ 10 ∷ [])
 
 abbrev pub end_line : ℕ → ℕ → List ℕ
 end_line number session = decimal number ++ (codes " end " ++ (decimal session ++ 10 ∷ []))
@@ -48,14 +50,3 @@ text (End session ∷ h) = text h ++ end_line (length (inputs h)) session
 pub record Running : Type 0 where
   pub events : List Event
   pub log : List Entry
-
--- the log's inputs are those of the trace so far
-pub record IsRun (events : List Event) (at : ℕ) (h : List Entry) : Type 0 where
-  pub given : AreGiven events (inputs h)
-  pub at_is : at ≡ min (length (inputs h)) (length events)
-  pub rest : AllNamed (opened_in h) (drop at events)
-
--- the number of the next line, and the lines so far
-pub record IsPrinted (number : ℕ) (printed : List ℕ) (h : List Entry) : Type 0 where
-  pub number_is : number ≡ length (inputs h)
-  pub text_is : printed ≡ text h

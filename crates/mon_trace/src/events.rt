@@ -5,7 +5,8 @@
 
 ghost use Rattle.std.specs.Prelude.{◌≡◌, ◌+◌, ◌<◌, ◌≤◌, ◌++◌, ◌∷◌, ◌^◌, [], length, take, drop, slice_index_or, IfOk, OnOk, MatchOption};
 ghost use Rattle.mon_world.specs.declared.event.Event.TheVariants.{Opened};
-ghost use Rattle.mon_trace.specs.Grammar.{Reads, onto, one, piece_of};
+ghost use Rattle.mon_trace.specs.Grammar.{Reads, piece_of};
+ghost use Rattle.mon_trace.specs.Reading.{onto, one};
 ghost use Rattle.mon_trace.specs.Hex.{unhex};
 ghost use Rattle.mon_trace.specs.Run.{event_at};
 
@@ -15,6 +16,9 @@ use mon_list::OutOfMemory;
 use mon_world::{Event, Piece, Side};
 use std::alloc::{AllocError, Global};
 use std::marker::Model;
+
+/// The most bytes of a piece.
+const LARGEST_PIECE: usize = 4096;
 
 /// An event: the opening of a session, or where the bytes of a piece stand.
 #[derive(Clone, Copy)]
@@ -76,7 +80,7 @@ impl Events {
         let start = self.bytes.len();
         push_bytes(digits, &mut self.bytes)?;
         let size = self.bytes.len() - start;
-        if size == 0 || size > 4096 {
+        if size == 0 || size > LARGEST_PIECE {
             return Err(TraceFault::BadTrace);
         }
         self.places.push(Place::Bytes {

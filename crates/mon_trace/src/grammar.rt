@@ -1,7 +1,8 @@
 //! The text of a trace.
 
 ghost use Rattle.std.specs.Prelude.{◌≡◌, ◌<◌, ◌^◌, length};
-ghost use Rattle.mon_trace.specs.Grammar.{Reads, record_of, switch_record, pieces_in, events_in, is_open, key_of, trace_of, lines_of, onto, one};
+ghost use Rattle.mon_trace.specs.Grammar.{Reads, record_of, switch_record, is_open, key_of, trace_of, lines_of};
+ghost use Rattle.mon_trace.specs.Reading.{pieces_in, events_in, onto, one};
 ghost use Rattle.mon_world.specs.Logs.{AllNamed, NoStop};
 
 use crate::events::Events;

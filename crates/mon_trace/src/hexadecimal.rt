@@ -1,7 +1,8 @@
 //! Bytes in lower hexadecimal digits, read and written by tables.
 
 ghost use Rattle.std.specs.Prelude.{◌≡◌, ◌+◌, ◌*◌, ◌≤◌, ◌<◌, ◌++◌, OnOk, length};
-ghost use Rattle.mon_trace.specs.Grammar.{Reads, onto};
+ghost use Rattle.mon_trace.specs.Grammar.{Reads};
+ghost use Rattle.mon_trace.specs.Reading.{onto};
 ghost use Rattle.mon_trace.specs.Hex.{hex, hex_digit, unhex, byte_of, digit_of, digit_in};
 
 use crate::fault::TraceFault;

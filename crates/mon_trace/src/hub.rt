@@ -1,57 +1,45 @@
 //! A hub that gives the events of a trace, and prints what it is given.
 
-ghost use Rattle.std.specs.Prelude.{◌≡◌, ◌≤◌, ◌++◌, ◌∷◌, List, ℕ, [], Some, IfOk, OnOk, OnErr, length, reverse};
+ghost use Rattle.std.specs.Prelude.{◌≡◌, ◌≤◌, ◌∷◌, [], Some, IfOk, OnOk, OnErr, length, reverse};
 ghost use Rattle.mon_world.specs.declared.event.Event.TheVariants.{Stop};
 ghost use Rattle.mon_world.specs.declared.history.Entry.TheVariants.{Given};
 ghost use Rattle.mon_world.specs.Logs.{inputs, opened_in, entry_of, NamesOpened, StopsNow, NoStop};
 ghost use Rattle.mon_trace.specs.Grammar.{Traced};
-ghost use Rattle.mon_trace.specs.Run.{Running, text, event_at};
+ghost use Rattle.mon_trace.specs.Run.{Running, text};
 
 use crate::grammar::Trace;
-use crate::printing::push_out;
+use crate::outputs::Outputs;
 use mon_list::{Items, OutOfMemory};
-use mon_world::{Entry, Event, Hub, HubFault, Out, Piece};
+use mon_world::{Event, Hub, HubFault, Out};
 use std::alloc::Global;
 use std::marker::Model;
 
 /// Gives the events of a trace in order and then Stop for ever, and writes a line for each output.
+///
+/// Its log needs no copy of the events: the inputs so far are the first events of the trace. No call of it fails but for
+/// want of memory, and then it is as it was.
 #[derive(Drop)]
 pub struct TraceHub {
     trace: Trace,
-    at: usize,
-    entries: Vec<Entry>,
+    // How many inputs were given.
     number: u64,
-    out: Vec<u8>,
-    line: Vec<u8>,
+    outputs: Outputs,
 }
 
 impl Model for TraceHub {
-    ghost use Rattle.std.specs.Prelude.{◌≤◌, length, reverse};
     ghost use Rattle.mon_trace.specs.Grammar.{Traced};
-    ghost use Rattle.mon_trace.specs.Run.{Running, IsRun, IsPrinted};
+    ghost use Rattle.mon_trace.specs.Outputs.{lines_text};
+    ghost use Rattle.mon_trace.specs.Run.{Running};
+    ghost use Rattle.mon_trace.specs.Woven.{InOrder, IsRun, woven};
 
     ghost Value = { Running };
 
-    ghost view = { λ t. record { events = t.trace.events; log = reverse t.entries.items } };
+    ghost view = { λ t. record { events = t.trace.events; log = woven t.trace.events t.number t.outputs } };
 
     ghost invariant = { λ t. record {
-      run : IsRun t.trace.events t.at (reverse t.entries.items);
-      counted : t.number ≤ length t.entries.items;
-      printed : IsPrinted t.number t.out.items (reverse t.entries.items);
+      order : InOrder t.number t.outputs;
+      run : IsRun t.trace.events t.number (lines_text t.outputs) (woven t.trace.events t.number t.outputs);
     } };
-}
-
-fn entry_of(alloc: Global, out: &Out) -> Result<Entry, OutOfMemory>
-    ensures { IfOk result (λ e. e ≡ entry_of out.now) }
-{
-    match out {
-        Out::Send { session, to, frame } => Ok(Entry::Put {
-            session: *session,
-            to: *to,
-            frame: frame.copied(alloc)?,
-        }),
-        Out::Close { session } => Ok(Entry::End { session: *session }),
-    }
 }
 
 impl TraceHub {
@@ -62,11 +50,8 @@ impl TraceHub {
         let _ = trace.events();
         Ok(TraceHub {
             trace,
-            at: 0,
-            entries: Vec::new(alloc),
             number: 0,
-            out: Vec::new(alloc),
-            line: Vec::new(alloc),
+            outputs: Outputs::new(alloc),
         })
     }
 
@@ -78,39 +63,31 @@ impl TraceHub {
         ensures few { NoStop (inputs self.log) → length (inputs self.log) ≤ length self.events }
     {
         let _ = self.trace.events();
-        self.out
+        self.outputs.into_text()
     }
 
+    /// The next event. Inputs are numbered by 64 bits: where they are used up there is no room for one more.
     fn give(&mut self, alloc: Global) -> Result<Event, OutOfMemory>
         ensures log { IfOk result (λ event. self.new.log ≡ Given event ∷ self.old.log) }
         ensures same { OnErr result (self.new.log ≡ self.old.log) }
         ensures events { self.new.events ≡ self.old.events }
         ensures names { IfOk result (λ event. NamesOpened (opened_in self.new.log) event) }
     {
-        let event = self.trace.events().event(alloc, self.at)?;
-        let copy = self.trace.events().event(alloc, self.at)?;
-        self.entries.push(Entry::Given(copy))?;
-        self.number += 1;
-        if self.at < self.trace.events().len() {
-            self.at += 1;
-        }
+        let Some(next) = self.number.checked_add(1) else {
+            return Err(OutOfMemory);
+        };
+        let event = self.trace.events().event(alloc, self.number as usize)?;
+        self.number = next;
         Ok(event)
     }
 
-    fn take(&mut self, alloc: Global, out: &Out) -> Result<(), OutOfMemory>
+    /// Writes the line of an output.
+    fn take(&mut self, out: &Out) -> Result<(), OutOfMemory>
         ensures log { OnOk result (self.new.log ≡ entry_of out.now ∷ self.old.log) }
         ensures same { OnErr result (self.new.log ≡ self.old.log) }
         ensures events { self.new.events ≡ self.old.events }
     {
-        self.line.clear();
-        push_out(alloc, &mut self.line, self.number, out)?;
-        let entry = entry_of(alloc, out)?;
-        self.entries.reserve(1)?;
-        self.out.extend_from_slice(&self.line)?;
-        match self.entries.push(entry) {
-            Ok(()) => Ok(()),
-            Err(_) => unreachable!(),
-        }
+        self.outputs.push(self.number, out)
     }
 }
 
@@ -132,7 +109,7 @@ impl Hub for TraceHub {
         }
     }
 
-    fn put(&mut self, alloc: Global, out: &Out) -> Result<(), OutOfMemory> {
-        self.take(alloc, out)
+    fn put(&mut self, _alloc: Global, out: &Out) -> Result<(), OutOfMemory> {
+        self.take(out)
     }
 }

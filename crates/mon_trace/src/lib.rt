@@ -1,4 +1,11 @@
-//! Traces: their text, and a hub that gives their events and keeps what it is given.
+//! Traces of a session: their text, and a hub that gives their events and writes down what it is given.
+//!
+//! `read_trace` accepts the texts of `specs/Grammar.antt` and no others, and gives the key and the events that they say.
+//! `TraceHub` gives these events in order and then Stop, tells its log, and its `text` is the text of that log
+//! (`specs/Run.antt`): a line for each output, with the number of the record that was handled.
+//!
+//! A trace may be large, so nothing is kept twice. The bytes of all pieces stand in one vector, a piece is a place in
+//! it, and the hub's log is its place in the trace and the text that it has written.
 #![tactic(auto)]
 
 mod events;
@@ -7,7 +14,10 @@ mod grammar;
 mod hexadecimal;
 mod hub;
 mod lines;
+mod outputs;
 mod printing;
+#[cfg(test)]
+mod tests;
 
 pub use fault::TraceFault;
 pub use grammar::{Trace, read_trace};

@@ -1,7 +1,7 @@
 //! Lines of a text, which are slices of it.
 
 ghost use Rattle.std.specs.Prelude.{◌≡◌, ◌≤◌, ◌<◌, ◌+◌, length, take, drop};
-ghost use Rattle.mon_trace.specs.Grammar.{FirstLine};
+ghost use Rattle.mon_trace.specs.Reading.{FirstLine};
 
 use memchr::memchr;
 

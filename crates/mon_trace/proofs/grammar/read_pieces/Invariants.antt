@@ -1,5 +1,6 @@
 use Rattle.std.proofs.Common.{◌≡◌, length}
-use Rattle.mon_trace.specs.Grammar.{pieces_in, lines_of, onto}
+use Rattle.mon_trace.specs.Grammar.{lines_of}
+use Rattle.mon_trace.specs.Reading.{pieces_in, onto}
 use Rattle.mon_trace.proofs.grammar.read_pieces.Given as goal
 
 abbrev pub invariant-loop-rest : goal.invariant-loop-rest

@@ -1,6 +1,6 @@
 use Rattle.std.proofs.Common.{◌≡◌, ◌+◌, ◌*◌, ◌≤◌, length}
 use Rattle.mon_trace.specs.Hex.{unhex}
-use Rattle.mon_trace.specs.Grammar.{onto}
+use Rattle.mon_trace.specs.Reading.{onto}
 use Rattle.mon_trace.proofs.hexadecimal.push_bytes.Given as goal
 
 abbrev pub invariant-loop-rest : goal.invariant-loop-rest

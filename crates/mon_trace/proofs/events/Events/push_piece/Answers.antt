@@ -2,7 +2,8 @@ use Rattle.std.proofs.Common.{◌≡◌, ◌∙◌, ◌+◌, ◌-◌, ◌++◌, 
 use Rattle.mon_world.specs.declared.event.Event.{Event}
 use Rattle.mon_trace.specs.declared.events.Place.{Place}
 use Rattle.mon_trace.specs.declared.events.Place.TheVariants.{Bytes}
-use Rattle.mon_trace.specs.Grammar.{onto, one, piece_of}
+use Rattle.mon_trace.specs.Grammar.{piece_of}
+use Rattle.mon_trace.specs.Reading.{onto, one}
 use Rattle.mon_trace.specs.Hex.{unhex}
 use Rattle.mon_trace.specs.Places.{events_at, AllWithin}
 use Rattle.mon_trace.proofs.Places.{all_within-append, all_within-more, pushed_piece}
@@ -34,7 +35,7 @@ invariant_of-self-2 c =
     let end : c.len.result ≡ length new = search rules in
     let grown : c.push.new.self.items ≡ inside.places.items ++ Bytes c.args.side c.len-start.result size ∷ [] = search rules in
     subst (AllWithin (length new)) (sym grown)
-    (all_within-append (length new) inside.places.items (Bytes c.args.side c.len-start.result size ∷ []) (all_within-more (length old) (length new) inside.places.items c.self.invariant c.push_bytes.ensures.longer) ((omega (arith, c.if-size-eq0.false), omega (arith, c.if-size-gt4096.false), omega (arith, start, end, c.push_bytes.ensures.longer)), tt))
+    (all_within-append (length new) inside.places.items (Bytes c.args.side c.len-start.result size ∷ []) (all_within-more (length old) (length new) inside.places.items c.self.invariant c.push_bytes.ensures.longer) ((omega (arith, c.if-size-eq0.false), omega (arith, c.if-size-gt-LARGEST_PIECE.false), omega (arith, start, end, c.push_bytes.ensures.longer)), tt))
 
 pub returns : goal.returns
 returns c =
@@ -48,5 +49,5 @@ returns c =
     let total : length old + size ≡ length new = omega (arith, start, end, c.push_bytes.ensures.longer) in
     let read = unhex c.args.digits.now in
     ap (λ (events : List Event). onto events (one (piece_of c.args.side read))) (sym c.self.view_is)
-    ∙ pushed_piece c.args.side read old new inside.places.items size c.in_ok-push_bytes.ensures.value c.self.invariant total (omega (arith, c.if-size-eq0.false)) (omega (arith, c.if-size-gt4096.false))
+    ∙ pushed_piece c.args.side read old new inside.places.items size c.in_ok-push_bytes.ensures.value c.self.invariant total (omega (arith, c.if-size-eq0.false)) (omega (arith, c.if-size-gt-LARGEST_PIECE.false))
     ∙ ap (λ (places : List Place). Some (events_at new places)) (sym grown)

@@ -1,0 +1,127 @@
+-- Digits that were written say the bytes again, and stand where their place says.
+use Rattle.std.proofs.Common.{◌≡◌, ℕ, zero, suc, ◌+◌, ◌-◌, ◌*◌, ◌/◌, ◌%◌, ◌<◌, ◌≤◌, Bool, true, false, cond, List, [], ◌∷◌, ◌++◌, length, get_or, take, drop, Option, Some, None, refl, sym, ap, subst, ◌∙◌, arith, length-append, inl, inr}
+use Rattle.std.specs.Prelude.{nat_lt, nat_le, ◌&&◌, reverse}
+use Rattle.std.proofs.Math.Seq.{drop-append_seam, drop-append-add}
+use Rattle.std.proofs.lemmas.Bool.{cases_lt, lt-ltb, le-ltb, le-leb, lt-leb}
+use Rattle.std.proofs.lemmas.List.{take-append-le, drop-append-le, length-drop, take_all, append_assoc, reverse-append}
+use Rattle.mon_world.specs.declared.event.Side.{Side}
+use Rattle.mon_world.specs.declared.event.Out.{Out}
+use Rattle.mon_world.specs.declared.event.Out.TheVariants.{Send, Close}
+use Rattle.mon_trace.specs.declared.outputs.Output.{Output}
+use Rattle.mon_trace.specs.declared.outputs.Output.TheVariants.{Frame, Closing}
+use Rattle.mon_trace.specs.Hex.{hex, hex_digit, unhex, digit_of, byte_of, joined, with_byte}
+use Rattle.mon_trace.specs.Run.{put_head, put_line, line_of}
+use Rattle.mon_trace.specs.Outputs.{bytes_of, frame_at, output_of, outputs_in, IsIn, AllIn, IsPlaceIn, lines_text}
+
+-- each number is a byte
+abbrev pub AllBytes : List ℕ → Type 0
+AllBytes [] = Unit {0}
+AllBytes (byte ∷ bytes) = (byte < 256) × AllBytes bytes
+
+pub all_bytes : (bytes : List ℕ) → ((k : ℕ) → get_or bytes k 0 < 256) → AllBytes bytes
+all_bytes [] small = tt
+all_bytes (byte ∷ bytes) small = (small 0, all_bytes bytes (λ k. small (suc k)))
+
+pub hex-length : (bytes : List ℕ) → length (hex bytes) ≡ 2 * length bytes
+hex-length [] = refl
+hex-length (byte ∷ bytes) = omega (arith, hex-length bytes)
+
+low_digit : (d : ℕ) → d < 10 → digit_of (48 + d) ≡ Some d
+unfolding digit_of
+low_digit d small =
+    let from : nat_le 48 (48 + d) ≡ true = le-leb 48 (48 + d) (omega arith) in
+    let to : nat_le (48 + d) 57 ≡ true = le-leb (48 + d) 57 (omega (arith, small)) in
+    let back : 48 + d - 48 ≡ d = omega arith in
+    rw (from, to, back) refl
+
+high_digit : (d : ℕ) → 10 ≤ d → d < 16 → digit_of (87 + d) ≡ Some d
+unfolding digit_of
+high_digit d large small =
+    let from : nat_le 48 (87 + d) ≡ true = le-leb 48 (87 + d) (omega arith) in
+    let past : nat_le (87 + d) 57 ≡ false = lt-leb (87 + d) 57 (omega (arith, large)) in
+    let again : nat_le 97 (87 + d) ≡ true = le-leb 97 (87 + d) (omega (arith, large)) in
+    let to : nat_le (87 + d) 102 ≡ true = le-leb (87 + d) 102 (omega (arith, small)) in
+    let back : 87 + d - 87 ≡ d = omega arith in
+    rw (from, past, again, to, back) refl
+
+digit_back : (d : ℕ) → d < 16 → digit_of (hex_digit d) ≡ Some d
+digit_back d small = elim (cases_lt d 10) [
+  | inl lt ↦ ap (λ (b : Bool). digit_of (cond b (48 + d) (87 + d))) (lt-ltb d 10 lt) ∙ low_digit d lt
+  | inr le ↦ ap (λ (b : Bool). digit_of (cond b (48 + d) (87 + d))) (le-ltb d 10 le) ∙ high_digit d le small
+]
+
+byte_back : (byte : ℕ) → byte < 256 → byte_of (hex_digit (byte / 16)) (hex_digit (byte % 16)) ≡ Some byte
+unfolding byte_of
+byte_back byte small =
+    let high : digit_of (hex_digit (byte / 16)) ≡ Some (byte / 16) = digit_back (byte / 16) (omega (arith, small)) in
+    let low : digit_of (hex_digit (byte % 16)) ≡ Some (byte % 16) = digit_back (byte % 16) (omega arith) in
+    ap (λ (o : Option ℕ). joined o (digit_of (hex_digit (byte % 16)))) high ∙ ap (joined (Some (byte / 16))) low ∙ ap Some (let e : 16 * (byte / 16) + byte % 16 ≡ byte = omega arith in e)
+
+pub unhex-hex : (bytes : List ℕ) → AllBytes bytes → unhex (hex bytes) ≡ Some bytes
+unhex-hex [] all = refl
+unhex-hex (byte ∷ bytes) all =
+    ap (λ (o : Option ℕ). with_byte o (unhex (hex bytes))) (byte_back byte all.0) ∙ ap (with_byte (Some byte)) (unhex-hex bytes all.1)
+
+-- the digits behind a head, in front of the line feed
+pub digits_at : (text head frame : List ℕ) (start size : ℕ) → unhex (hex frame) ≡ Some frame → start ≡ length text + length head → size ≡ length frame → frame_at (text ++ (head ++ (hex frame ++ 10 ∷ []))) start size ≡ frame
+digits_at text head frame start size says start_is size_is =
+    let line = hex frame ++ 10 ∷ [] in
+    let cut : drop start (text ++ (head ++ line)) ≡ line =
+    ap (λ (n : ℕ). drop n (text ++ (head ++ line))) start_is ∙ drop-append-add text (head ++ line) (length head) ∙ drop-append_seam head line in
+    let digits : take (2 * size) line ≡ hex frame =
+    take-append-le (2 * size) (hex frame) (10 ∷ []) (omega (arith, hex-length frame, size_is)) ∙ take_all (2 * size) (hex frame) (omega (arith, hex-length frame, size_is)) in
+    ap (λ (xs : List ℕ). bytes_of (unhex (take (2 * size) xs))) cut ∙ ap (λ (xs : List ℕ). bytes_of (unhex xs)) digits ∙ ap bytes_of says
+
+pub frame_placed : (before number session : ℕ) (to : Side) (frame : List ℕ) (start size : ℕ) → unhex (hex frame) ≡ Some frame → start ≡ before + length (put_head number session to) → size ≡ length frame → IsPlaceIn before (put_line number session to frame) number (Send session to frame) (Frame number session to start size)
+frame_placed before number session to frame start size says start_is size_is text text_is =
+    let head = put_head number session to in
+    let is : frame_at (text ++ put_line number session to frame) start size ≡ frame = digits_at text head frame start size says (start_is ∙ ap (λ (n : ℕ). n + length head) (sym text_is)) size_is in (
+      ap (λ (xs : List ℕ). (number, Send session to xs)) is,
+      omega (arith, start_is, size_is, text_is, length-append text (put_line number session to frame), length-append head (hex frame ++ 10 ∷ []), length-append (hex frame) (10 ∷ []), hex-length frame),
+    )
+
+pub closing_placed : (before number session : ℕ) (line : List ℕ) → IsPlaceIn before line number (Close session) (Closing number session)
+closing_placed before number session line text text_is = (refl, tt)
+
+-- text behind that which is there changes no output
+output_stays : (text more : List ℕ) (place : Output) → IsIn (length text) place → output_of (text ++ more) place ≡ output_of text place
+output_stays text more (Closing number session) is = refl
+output_stays text more (Frame number session to start size) is =
+    let cut : drop start (text ++ more) ≡ drop start text ++ more = drop-append-le start text more (omega (arith, is)) in
+    let room : 2 * size ≤ length (drop start text) = omega (arith, is, length-drop start text) in
+    let digits : take (2 * size) (drop start (text ++ more)) ≡ take (2 * size) (drop start text) = ap (take (2 * size)) cut ∙ take-append-le (2 * size) (drop start text) more room in
+    ap (λ (xs : List ℕ). (number, Send session to (bytes_of (unhex xs)))) digits
+
+outputs_stay : (text more : List ℕ) (places : List Output) → AllIn (length text) places → outputs_in (text ++ more) places ≡ outputs_in text places
+outputs_stay text more [] all = refl
+outputs_stay text more (place ∷ places) all =
+    ap (λ (o : ℕ × Out). o ∷ outputs_in (text ++ more) places) (output_stays text more place all.0)
+    ∙ ap (λ (os : List (ℕ × Out)). output_of text place ∷ os) (outputs_stay text more places all.1)
+
+in_more : (total more : ℕ) (place : Output) → IsIn total place → total ≤ more → IsIn more place
+in_more total more (Closing number session) is le = tt
+in_more total more (Frame number session to start size) is le = omega (arith, is, le)
+
+all_in-more : (total more : ℕ) (places : List Output) → AllIn total places → total ≤ more → AllIn more places
+all_in-more total more [] all le = tt
+all_in-more total more (place ∷ places) all le = (in_more total more place all.0 le, all_in-more total more places all.1 le)
+
+-- the text and the places with one output more
+pub record IsGrown (text line : List ℕ) (places more : List Output) (number : ℕ) (out : Out) : Type 0 where
+  pub view : outputs_in (text ++ line) (reverse more) ≡ (number, out) ∷ outputs_in text (reverse places)
+  pub within : AllIn (length (text ++ line)) (reverse more)
+  pub printed : text ++ line ≡ lines_text (outputs_in (text ++ line) (reverse more))
+
+pub grown : (text line : List ℕ) (places more : List Output) (number : ℕ) (out : Out) (place : Output) → line ≡ line_of number out → IsPlaceIn (length text) line number out place → more ≡ places ++ place ∷ [] → AllIn (length text) (reverse places) → text ≡ lines_text (outputs_in text (reverse places)) → IsGrown text line places more number out
+grown text line places more number out place line_is placed more_is all printed =
+    let newest : reverse more ≡ place ∷ reverse places = ap reverse more_is ∙ reverse-append places (place ∷ []) in
+    let one = placed text refl in
+    let view : outputs_in (text ++ line) (reverse more) ≡ (number, out) ∷ outputs_in text (reverse places) =
+    ap (outputs_in (text ++ line)) newest
+    ∙ ap (λ (o : ℕ × Out). o ∷ outputs_in (text ++ line) (reverse places)) one.0
+    ∙ ap (λ (os : List (ℕ × Out)). (number, out) ∷ os) (outputs_stay text line (reverse places) all) in
+    record {
+      view = view;
+      within = subst (AllIn (length (text ++ line))) (sym newest) (one.1, all_in-more (length text) (length (text ++ line)) (reverse places) all (omega (arith, length-append text line)));
+      printed = ap (λ (xs : List ℕ). xs ++ line) printed ∙ ap (λ (xs : List ℕ). lines_text (outputs_in text (reverse places)) ++ xs) line_is ∙ sym (ap lines_text view);
+    }

@@ -1,0 +1,35 @@
+use Rattle.std.proofs.Common.{◌≡◌, ◌∙◌, ◌++◌, ◌∷◌, [], List, ℕ, length, ap, sym, subst, arith, rules}
+use Rattle.std.specs.Prelude.{reverse}
+use Rattle.mon_world.specs.declared.event.Out.{Out}
+use Rattle.mon_trace.specs.declared.outputs.Output.{Output}
+use Rattle.mon_trace.specs.Run.{line_of}
+use Rattle.mon_trace.specs.Outputs.{outputs_in, AllIn, IsPlaceIn, lines_text}
+use Rattle.mon_trace.proofs.Decoding.{grown, IsGrown}
+use Rattle.mon_trace.proofs.outputs.Outputs.push.Goals as goal
+
+pub invariant_of-self-2 : goal.invariant_of-self-2
+invariant_of-self-2 c =
+    let inside = c.self.inside in
+    let old = inside.text.items in
+    let line = c.write_line.new.line.items in
+    let new : old ++ line ≡ c.extend_from_slice.new.self.items = search rules in
+    let places : c.push.new.self.items ≡ inside.places.items ++ c.in_ok-place.place ∷ [] = search rules in
+    let before : c.len.result ≡ length old = search rules in
+    let placed : IsPlaceIn (length old) line c.args.number c.args.out.now c.in_ok-place.place = subst (λ (n : ℕ). IsPlaceIn n line c.args.number c.args.out.now c.in_ok-place.place) before c.in_ok-place.ensures.place in
+    let more = grown old line inside.places.items c.push.new.self.items c.args.number c.args.out.now c.in_ok-place.place c.in_ok-place.ensures.line placed places c.self.invariant.within c.self.invariant.printed in
+    record {
+      within = subst (λ (text : List ℕ). AllIn (length text) (reverse c.push.new.self.items)) new more.within;
+      printed = subst (λ (text : List ℕ). text ≡ lines_text (outputs_in text (reverse c.push.new.self.items))) new more.printed;
+    }
+
+pub returns-clause-pushed : goal.returns-clause-pushed
+returns-clause-pushed c =
+    let inside = c.self.inside in
+    let old = inside.text.items in
+    let line = c.write_line.new.line.items in
+    let new : old ++ line ≡ c.extend_from_slice.new.self.items = search rules in
+    let places : c.push.new.self.items ≡ inside.places.items ++ c.in_ok-place.place ∷ [] = search rules in
+    let before : c.len.result ≡ length old = search rules in
+    let placed : IsPlaceIn (length old) line c.args.number c.args.out.now c.in_ok-place.place = subst (λ (n : ℕ). IsPlaceIn n line c.args.number c.args.out.now c.in_ok-place.place) before c.in_ok-place.ensures.place in
+    let more = grown old line inside.places.items c.push.new.self.items c.args.number c.args.out.now c.in_ok-place.place c.in_ok-place.ensures.line placed places c.self.invariant.within c.self.invariant.printed in
+    ap (λ (text : List ℕ). outputs_in text (reverse c.push.new.self.items)) (sym new) ∙ more.view ∙ ap (λ (outs : List (ℕ × Out)). (c.args.number, c.args.out.now) ∷ outs) c.self.view_is

@@ -1,0 +1,134 @@
+//! The outputs of a run, kept as their text.
+//!
+//! The line of an output is written when it comes, so nothing is left to write at the end. Beside the text an output is
+//! kept as the number of inputs before it and the place of its digits: its bytes are those that the digits say.
+
+ghost use Rattle.std.specs.Prelude.{◌≡◌, ◌<◌, ◌^◌, ◌∷◌, [], length, IfOk, OnOk, OnErr};
+ghost use Rattle.mon_trace.specs.Outputs.{lines_text, IsPlaceIn};
+ghost use Rattle.of_frame.specs.Header.{IsFrame};
+ghost use Rattle.mon_trace.specs.Run.{line_of};
+
+use crate::printing::{push_end, push_frame, push_head};
+use mon_list::OutOfMemory;
+use mon_world::{Out, Side};
+use std::alloc::{AllocError, Global};
+use std::marker::Model;
+
+/// An output, after so many inputs.
+#[derive(Clone, Copy)]
+pub(crate) enum Output {
+    /// A frame of so many bytes, whose digits begin at a place of the text.
+    Frame {
+        number: u64,
+        session: u64,
+        to: Side,
+        start: usize,
+        size: u16,
+    },
+    /// The end of a session.
+    Closing {
+        number: u64,
+        session: u64,
+    },
+}
+
+/// Outputs and the number of inputs before each, seen as their list with the newest first.
+#[derive(Drop)]
+pub(crate) struct Outputs {
+    places: Vec<Output>,
+    text: Vec<u8>,
+    // The line that is being written. It is empty memory between two calls.
+    line: Vec<u8>,
+}
+
+impl Model for Outputs {
+    ghost use Rattle.std.specs.Prelude.{◌≡◌, ℕ, List, length, reverse};
+    ghost use Rattle.mon_world.specs.declared.event.Out.{Out};
+    ghost use Rattle.mon_trace.specs.Outputs.{outputs_in, AllIn, lines_text};
+
+    ghost Value = { List (ℕ × Out) };
+
+    ghost view = { λ o. outputs_in o.text.items (reverse o.places.items) };
+
+    ghost invariant = { λ o. record {
+      within : AllIn (length o.text.items) (reverse o.places.items);
+      printed : o.text.items ≡ lines_text (outputs_in o.text.items (reverse o.places.items));
+    } };
+}
+
+/// How many bytes a frame has.
+fn size_of(frame: &[u8]) -> u16
+    requires { IsFrame frame.now }
+    ensures { result ≡ length frame.now }
+{
+    frame.len() as u16
+}
+
+/// Writes the line of an output in place of another line. The text behind which it is to stand has so many bytes.
+fn write_line(
+    line: &mut Vec<u8>,
+    before: usize,
+    number: u64,
+    out: &Out,
+) -> Result<Output, AllocError>
+    requires { before < 2 ^ 63 }
+    ensures line { OnOk result (line.new.items ≡ line_of number out.now) }
+    ensures place { IfOk result (λ place. IsPlaceIn before line.new.items number out.now place) }
+{
+    line.clear();
+    match out {
+        Out::Send { session, to, frame } => {
+            push_head(line, number, *session, *to)?;
+            let start = before + line.len();
+            push_frame(line, frame.bytes())?;
+            Ok(Output::Frame {
+                number,
+                session: *session,
+                to: *to,
+                start,
+                size: size_of(frame.bytes()),
+            })
+        }
+        Out::Close { session } => {
+            push_end(line, number, *session)?;
+            Ok(Output::Closing {
+                number,
+                session: *session,
+            })
+        }
+    }
+}
+
+impl Outputs {
+    /// No outputs.
+    pub(crate) fn new(alloc: Global) -> Outputs
+        ensures { result ≡ [] }
+    {
+        Outputs {
+            places: Vec::new(alloc),
+            text: Vec::new(alloc),
+            line: Vec::new(alloc),
+        }
+    }
+
+    /// Adds an output that came after so many inputs, or changes nothing for want of memory.
+    pub(crate) fn push(&mut self, number: u64, out: &Out) -> Result<(), OutOfMemory>
+        ensures pushed { OnOk result (self.new ≡ (number, out.now) ∷ self.old) }
+        ensures same { OnErr result (self.new ≡ self.old) }
+    {
+        let place = write_line(&mut self.line, self.text.len(), number, out)?;
+        self.places.reserve(1)?;
+        self.text.extend_from_slice(&self.line)?;
+        match self.places.push(place) {
+            Ok(()) => Ok(()),
+            Err(_) => unreachable!(),
+        }
+    }
+
+    /// The lines of all outputs. It takes no memory.
+    pub(crate) fn into_text(self) -> Vec<u8>
+        ensures { result.items ≡ lines_text self }
+    {
+        self.text
+    }
+}
