@@ -1,7 +1,7 @@
 -- The first line feed ends the first line.
-use Rattle.std.proofs.Common.{◌≡◌, ℕ, zero, suc, ◌+◌, ◌<◌, ◌≤◌, Bool, true, false, cond, List, [], ◌∷◌, length, take, drop, Option, Some, None, refl, sym, ap, subst, ◌∙◌, arith, add-one, nat_lt}
-use Rattle.std.specs.Prelude.{◌==◌, slice_index}
-use Rattle.memchr.specs.Find.{Nowhere, NoneBefore, IsFirstByte, Passes, is_byte}
+use Rattle.std.proofs.Common.{◌≡◌, ℕ, zero, suc, ◌<◌, Bool, true, false, cond, List, [], ◌∷◌, length, take, drop, Option, Some, None, refl, sym, ap, ◌∙◌, arith, add-one}
+use Rattle.std.specs.Prelude.{◌==◌}
+use Rattle.memchr.specs.Find.{Nowhere, IsFirstByte, Passes, is_byte}
 use Rattle.mon_trace.specs.Grammar.{lines_of, line_before, byte_before}
 use Rattle.mon_trace.specs.Reading.{FirstLine}
 

@@ -1,11 +1,11 @@
 -- The events of a trace name a session that was opened by then, and none is Stop.
-use Rattle.std.proofs.Common.{◌≡◌, ℕ, ◌<◌, Bool, true, false, cond, List, [], ◌∷◌, Option, Some, None, length, drop, refl, sym, subst, lit<}
+use Rattle.std.proofs.Common.{◌≡◌, ℕ, Bool, true, false, cond, List, [], ◌∷◌, Option, Some, None, length, drop, refl, sym, subst, lit<}
 use Rattle.std.specs.Prelude.{IfSome, nat_eq, nat_lt, nat_le, ◌&&◌}
 use Rattle.std.specs.List.{starts_with}
 use Rattle.mon_world.specs.declared.event.Side.{Side}
 use Rattle.mon_world.specs.declared.event.Side.TheVariants.{Controller, Switch}
 use Rattle.mon_world.specs.declared.event.Event.{Event}
-use Rattle.mon_world.specs.declared.event.Event.TheVariants.{Opened, Piece, Stop}
+use Rattle.mon_world.specs.declared.event.Event.TheVariants.{Opened, Piece}
 use Rattle.mon_world.specs.Logs.{NamesOpened, opened_by, AllNamed, IsStop, NoStop}
 use Rattle.mon_trace.specs.Grammar.{piece_of, record_of, switch_record, pieces_of, event_before, events_of, is_open, from_controller, from_switch}
 use Rattle.mon_trace.specs.Reading.{events_in}

@@ -1,5 +1,5 @@
 -- A run of a trace: what was given and taken, and its text.
-use Rattle.std.specs.Prelude.{ℕ, zero, suc, ◌≡◌, ◌≤◌, nat_le, if◌then◌else◌, List, [], ◌∷◌, ◌++◌, length, drop, slice_index_or, codes, decimal}
+use Rattle.std.specs.Prelude.{ℕ, ◌≡◌, List, [], ◌∷◌, ◌++◌, length, slice_index_or, codes, decimal}
 use Rattle.mon_world.specs.declared.event.Side.{Side}
 use Rattle.mon_world.specs.declared.event.Side.TheVariants.{Controller, Switch}
 use Rattle.mon_world.specs.declared.event.Event.{Event}
@@ -8,7 +8,7 @@ use Rattle.mon_world.specs.declared.event.Out.{Out}
 use Rattle.mon_world.specs.declared.event.Out.TheVariants.{Send, Close}
 use Rattle.mon_world.specs.declared.history.Entry.{Entry}
 use Rattle.mon_world.specs.declared.history.Entry.TheVariants.{Given, Put, End}
-use Rattle.mon_world.specs.Logs.{inputs, opened_in, entry_of, AllNamed}
+use Rattle.mon_world.specs.Logs.{inputs}
 use Rattle.mon_trace.specs.Hex.{hex}
 
 -- the n-th input of a run, counted from 0: those of the trace, and then Stop

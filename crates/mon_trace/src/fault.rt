@@ -31,11 +31,3 @@ impl<T: Drop> From<AllocFailed<T>> for TraceFault {
         TraceFault::OutOfMemory
     }
 }
-
-impl From<mon_list::OutOfMemory> for TraceFault {
-    ghost from_gives = { λ _ e. e ≡ fault.OutOfMemory };
-
-    fn from(_: mon_list::OutOfMemory) -> Self {
-        TraceFault::OutOfMemory
-    }
-}

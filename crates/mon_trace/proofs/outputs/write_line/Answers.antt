@@ -1,4 +1,4 @@
-use Rattle.std.proofs.Common.{◌≡◌, ◌∙◌, ◌+◌, ◌++◌, ◌∷◌, [], List, ℕ, Some, length, ap, sym, subst, arith, rules}
+use Rattle.std.proofs.Common.{◌≡◌, ◌∙◌, ◌+◌, List, ℕ, Some, length, ap, sym, subst, rules}
 use Rattle.mon_world.specs.declared.event.Out.{Out}
 use Rattle.mon_world.specs.declared.event.Out.TheVariants.{Send}
 use Rattle.mon_trace.specs.declared.outputs.Output.TheVariants.{Frame}

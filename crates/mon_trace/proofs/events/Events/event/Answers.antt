@@ -1,10 +1,8 @@
-use Rattle.std.proofs.Common.{◌≡◌, ◌∙◌, ◌<◌, ◌≤◌, ◌+◌, ℕ, List, length, take, drop, ap, sym, subst, arith, rules}
-use Rattle.std.specs.Prelude.{slice_index_or}
-use Rattle.std.proofs.lemmas.List.{length-drop, length-take-le}
+use Rattle.std.proofs.Common.{◌≡◌, ◌∙◌, ◌≤◌, ℕ, List, length, take, drop, ap, sym, subst, arith}
 use Rattle.mon_world.specs.declared.event.Event.{Event}
-use Rattle.mon_world.specs.declared.event.Event.TheVariants.{Piece, Stop}
+use Rattle.mon_world.specs.declared.event.Event.TheVariants.{Piece}
 use Rattle.mon_trace.specs.declared.events.Place.{Place}
-use Rattle.mon_trace.specs.declared.events.Place.TheVariants.{Opening, Bytes}
+use Rattle.mon_trace.specs.declared.events.Place.TheVariants.{Bytes}
 use Rattle.mon_trace.specs.Places.{event_of, events_at, IsWithin}
 use Rattle.mon_trace.specs.Run.{event_at}
 use Rattle.mon_trace.proofs.Places.{kept, event_is, no_event, read_size}

@@ -1,7 +1,6 @@
 use Rattle.std.proofs.Common.{◌≡◌, ◌∙◌, ◌++◌, ◌∷◌, [], List, length, ap, sym, subst, rules}
 use Rattle.mon_world.specs.declared.event.Event.{Event}
 use Rattle.mon_world.specs.declared.event.Event.TheVariants.{Opened}
-use Rattle.mon_trace.specs.declared.events.Place.{Place}
 use Rattle.mon_trace.specs.declared.events.Place.TheVariants.{Opening}
 use Rattle.mon_trace.specs.Places.{events_at, AllWithin}
 use Rattle.mon_trace.proofs.Places.{events_at-append, all_within-append}

@@ -1,4 +1,4 @@
-use Rattle.std.proofs.Common.{◌≡◌, ◌∙◌, ◌+◌, ◌∷◌, List, ℕ, suc, ap, sym, subst, add-one, arith, rules}
+use Rattle.std.proofs.Common.{◌≡◌, ◌∙◌, ◌+◌, ◌∷◌, List, ℕ, suc, ap, sym, subst, add-one, rules}
 use Rattle.mon_world.specs.declared.event.Event.{Event}
 use Rattle.mon_world.specs.declared.history.Entry.{Entry}
 use Rattle.mon_world.specs.declared.history.Entry.TheVariants.{Given}

@@ -1,10 +1,8 @@
-use Rattle.std.proofs.Common.{◌≡◌, ◌∙◌, ◌++◌, ◌∷◌, [], List, ℕ, length, ap, sym, subst, arith, rules}
+use Rattle.std.proofs.Common.{◌≡◌, ◌∙◌, ◌++◌, ◌∷◌, [], List, ℕ, length, ap, sym, subst, rules}
 use Rattle.std.specs.Prelude.{reverse}
 use Rattle.mon_world.specs.declared.event.Out.{Out}
-use Rattle.mon_trace.specs.declared.outputs.Output.{Output}
-use Rattle.mon_trace.specs.Run.{line_of}
 use Rattle.mon_trace.specs.Outputs.{outputs_in, AllIn, IsPlaceIn, lines_text}
-use Rattle.mon_trace.proofs.Decoding.{grown, IsGrown}
+use Rattle.mon_trace.proofs.Decoding.{grown}
 use Rattle.mon_trace.proofs.outputs.Outputs.push.Goals as goal
 
 pub invariant_of-self-2 : goal.invariant_of-self-2
