@@ -6,10 +6,19 @@
 #![tactic(auto)]
 
 mod datapaths;
+mod fault;
+mod greedy;
+mod links;
+mod tagged;
+mod tags;
 mod topology;
 mod vids;
 
 pub use datapaths::Datapaths;
+pub use fault::TopoFault;
+pub use greedy::colour;
 pub use mon_list::OutOfMemory;
+pub use tagged::Tagged;
+pub use tags::Tags;
 pub use topology::{Link, Links, Topology};
 pub use vids::Vids;
