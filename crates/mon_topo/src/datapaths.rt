@@ -1,7 +1,7 @@
 //! Lists of datapath ids.
 
-ghost use Rattle.std.specs.Prelude.{◌≡◌, ◌↔◌, [], ◌∷◌, ◌++◌, OnOk, OnErr, IsTrue};
-ghost use Rattle.mon_topo.specs.Ascending.{AreDatapaths};
+ghost use Rattle.std.specs.Prelude.{◌≡◌, ◌-◌, ◌^◌, [], ◌∷◌, ◌++◌, OnOk, OnErr, IsTrue};
+ghost use Rattle.mon_topo.specs.Ascending.{AreDatapaths, next, may_follow};
 
 use mon_list::OutOfMemory;
 use std::alloc::Global;
@@ -34,19 +34,26 @@ impl Datapaths {
         }
     }
 
-    /// Whether this id may come next: it is above all that are there.
-    pub fn accepts(&self, datapath: u64) -> bool
-        ensures { IsTrue result ↔ AreDatapaths (self.now ++ datapath ∷ []) }
+    /// The least id that may come next, 2^64 where none may.
+    fn next(&self) -> u128
+        ensures { result ≡ next 0 self.now }
     {
         match self.items().last() {
-            Some(last) => *last < datapath,
-            None => true,
+            Some(last) => u128::from(*last) + 1,
+            None => 0,
         }
+    }
+
+    /// Whether this id may come next: it is above all that are there.
+    pub fn accepts(&self, datapath: u64) -> bool
+        ensures { result ≡ may_follow 0 (2 ^ 64 - 1) self.now datapath }
+    {
+        self.next() <= u128::from(datapath)
     }
 
     /// Appends one id, or changes nothing for want of memory.
     pub fn push(&mut self, datapath: u64) -> Result<(), OutOfMemory>
-        requires { AreDatapaths (self.old ++ datapath ∷ []) }
+        requires { IsTrue (may_follow 0 (2 ^ 64 - 1) self.old datapath) }
         ensures pushed { OnOk result (self.new ≡ self.old ++ datapath ∷ []) }
         ensures same { OnErr result (self.new ≡ self.old) }
     {

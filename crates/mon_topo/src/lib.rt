@@ -17,8 +17,12 @@ mod vids;
 pub use datapaths::Datapaths;
 pub use fault::TopoFault;
 pub use greedy::colour;
+pub use links::wrong_link;
 pub use mon_list::OutOfMemory;
 pub use tagged::Tagged;
 pub use tags::Tags;
 pub use topology::{Link, Links, Topology};
 pub use vids::Vids;
+
+#[cfg(test)]
+mod tests;

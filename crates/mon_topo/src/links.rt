@@ -36,9 +36,9 @@ fn is_twice(earlier: &[Link], link: &Link) -> bool
         || is_used(link.b, link.b_port, earlier)
 }
 
-/// What is wrong with the link at a place, after the earlier ones.
+/// What is wrong with the link at a place, from 0, after the earlier ones, which are not wrong; None where nothing is.
 #[tactic(auto, unfolding(crate::specs::Links::wrong))]
-fn wrong(switches: &[u64], earlier: &[Link], place: u64, link: &Link) -> Option<TopoFault>
+pub fn wrong_link(switches: &[u64], earlier: &[Link], place: u64, link: &Link) -> Option<TopoFault>
     ensures { result ≡ wrong switches.now earlier.now place link.now }
 {
     if is_unknown(switches, link) {
@@ -55,7 +55,7 @@ pub fn first_wrong(switches: &[u64], links: &[Link]) -> Option<TopoFault>
     ensures { result ≡ first_wrong switches.now [] 0 links.now }
 {
     for (i, link) in links.iter().enumerate() {
-        let fault = wrong(switches, &links[..i], i as u64, link);
+        let fault = wrong_link(switches, &links[..i], i as u64, link);
         if fault.is_some() {
             return fault;
         }

@@ -1,7 +1,7 @@
 //! Lists of VLAN ids.
 
-ghost use Rattle.std.specs.Prelude.{◌≡◌, ◌↔◌, [], ◌∷◌, ◌++◌, OnOk, OnErr, IsTrue};
-ghost use Rattle.mon_topo.specs.Ascending.{AreVids};
+ghost use Rattle.std.specs.Prelude.{◌≡◌, [], ◌∷◌, ◌++◌, OnOk, OnErr, IsTrue};
+ghost use Rattle.mon_topo.specs.Ascending.{AreVids, next, may_follow};
 
 use mon_list::OutOfMemory;
 use std::alloc::Global;
@@ -34,19 +34,26 @@ impl Vids {
         }
     }
 
-    /// Whether this id may come next: it is 1 to 4094, and above all that are there.
-    pub fn accepts(&self, vid: u16) -> bool
-        ensures { IsTrue result ↔ AreVids (self.now ++ vid ∷ []) }
+    /// The least id that may come next, 4095 where none may.
+    fn next(&self) -> u32
+        ensures { result ≡ next 1 self.now }
     {
         match self.items().last() {
-            Some(last) => *last < vid && vid <= 4094,
-            None => 1 <= vid && vid <= 4094,
+            Some(last) => u32::from(*last) + 1,
+            None => 1,
         }
+    }
+
+    /// Whether this id may come next: it is 1 to 4094, and above all that are there.
+    pub fn accepts(&self, vid: u16) -> bool
+        ensures { result ≡ may_follow 1 4094 self.now vid }
+    {
+        self.next() <= u32::from(vid) && vid <= 4094
     }
 
     /// Appends one id, or changes nothing for want of memory.
     pub fn push(&mut self, vid: u16) -> Result<(), OutOfMemory>
-        requires { AreVids (self.old ++ vid ∷ []) }
+        requires { IsTrue (may_follow 1 4094 self.old vid) }
         ensures pushed { OnOk result (self.new ≡ self.old ++ vid ∷ []) }
         ensures same { OnErr result (self.new ≡ self.old) }
     {
