@@ -1,9 +1,11 @@
 -- The normalised form is one, and is unchanged when it is normalised again.
-use Rattle.std.proofs.Common.{◌≡◌, ℕ, zero, ◌+◌, ◌*◌, ◌/◌, ◌%◌, ◌^◌, ◌<◌, ◌≤◌, Bool, true, false, refl, sym, ap, subst, ◌∙◌, arith}
-use Rattle.std.proofs.Math.Nat.{mul-div_cancel, div-mul-le_self}
+use Rattle.std.proofs.Common.{◌≡◌, ℕ, ◌*◌, ◌/◌, ◌^◌, ◌≤◌, Bool, true, false, refl, ap, ◌∙◌, arith}
+use Rattle.std.proofs.Math.Nat.{mul-div_cancel}
 use Rattle.std.proofs.lemmas.Nat.{pow_pos}
 use Rattle.mon_header.specs.declared.header.Header.{Header}
 use Rattle.mon_header.specs.declared.wild.Wildcards.{Wildcards}
+use Rattle.mon_header.specs.Wild.{packed, unpacked}
+use Rattle.mon_header.proofs.Packing.{unpacked-packed}
 use Rattle.mon_header.specs.Matching.{Matching, normal, kept, kept_above, InRange, IsNormal}
 
 pub kept-twice : (wild : Bool) (x : ℕ) → kept wild (kept wild x) ≡ kept wild x
@@ -50,3 +52,6 @@ pub kept-is-value : (w v : Wildcards) (h kept_ones : Header) → w ≡ v → kep
     → (let m : Matching = record { wild = w; fields = kept_ones } in m) ≡ normal v h
 unfolding normal
 kept-is-value w v h kept_ones e f = rw (f, e) refl
+
+pub normal-kept : (m : Matching) → IsNormal m → normal (unpacked (packed m.wild)) m.fields ≡ m
+normal-kept m p = ap (λ (w : Wildcards). normal w m.fields) (unpacked-packed m.wild p.nw_src_count p.nw_dst_count) ∙ p.same

@@ -1,5 +1,7 @@
 pub mod Wild
 pub mod Matching
 pub mod Order
+pub mod Laws
+pub mod Places
 pub mod Raw
 pub mod Actions

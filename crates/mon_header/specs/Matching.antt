@@ -1,5 +1,5 @@
 -- When a match takes a header, covers a match, and overlaps one: field by field (OpenFlow 1.0.0, matching).
-use Rattle.std.specs.Prelude.{◌≡◌, ℕ, ◌+◌, ◌*◌, ◌/◌, ◌%◌, ◌^◌, ◌<◌, ◌≤◌, max, Bool, true, false, ◌==◌, nat_le, not, ◌&&◌, ◌||◌, if◌then◌else◌}
+use Rattle.std.specs.Prelude.{◌≡◌, ℕ, ◌*◌, ◌/◌, ◌^◌, ◌<◌, ◌≤◌, max, Bool, ◌==◌, nat_le, not, ◌&&◌, ◌||◌, if◌then◌else◌}
 use Rattle.mon_header.specs.declared.header.Header.{Header}
 use Rattle.mon_header.specs.declared.wild.Wildcards.{Wildcards}
 use Rattle.mon_header.specs.Wild.{is_exact}

@@ -1,5 +1,5 @@
 -- The order of matches: that of the 40 bytes in which they are written, as numbers in the order of the layout.
-use Rattle.std.specs.Prelude.{ℕ, Bool, true, false, ◌==◌, nat_lt, ◌&&◌, ◌||◌, List, [], ◌∷◌}
+use Rattle.std.specs.Prelude.{ℕ, Bool, false, ◌==◌, nat_lt, ◌&&◌, ◌||◌, List, [], ◌∷◌}
 use Rattle.mon_header.specs.Wild.{packed}
 use Rattle.mon_header.specs.Matching.{Matching}
 

@@ -1,5 +1,5 @@
 -- The bytes of an action whose type is in no table.
-use Rattle.std.specs.Prelude.{◌≡◌, ℕ, ◌+◌, ◌*◌, ◌%◌, ◌<◌, ◌≤◌, List, length, slice_index, All}
+use Rattle.std.specs.Prelude.{◌≡◌, ℕ, ◌+◌, ◌*◌, ◌%◌, ◌<◌, ◌≤◌, List, length, slice_index}
 
 -- the two bytes at a place, as a number
 abbrev pub pair_at : ℕ → List ℕ → ℕ

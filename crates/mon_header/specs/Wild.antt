@@ -1,5 +1,5 @@
 -- The wildcards of a match, as bools and counts, and as the number that stands on the wire.
-use Rattle.std.specs.Prelude.{◌≡◌, ℕ, ◌+◌, ◌*◌, ◌/◌, ◌%◌, ◌^◌, ◌≤◌, min, Bool, true, false, not, ◌==◌, ◌&&◌, if◌then◌else◌}
+use Rattle.std.specs.Prelude.{ℕ, ◌+◌, ◌*◌, ◌/◌, ◌%◌, ◌^◌, min, Bool, not, ◌==◌, ◌&&◌, if◌then◌else◌}
 use Rattle.mon_header.specs.declared.wild.Wildcards.{Wildcards}
 
 abbrev pub flag : Bool → ℕ

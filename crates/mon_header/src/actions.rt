@@ -1,9 +1,9 @@
 //! Lists of actions.
 
-ghost use Rattle.std.specs.Prelude.{◌≡◌, ◌<◌, ◌^◌, ◌++◌, ◌∷◌, [], List, ℕ, OnOk, OnErr, IfOk};
+ghost use Rattle.std.specs.Prelude.{◌≡◌, ◌↔◌, ◌<◌, ◌^◌, ◌++◌, ◌∷◌, [], List, ℕ, OnOk, OnErr, IfOk, IsTrue};
 ghost use Rattle.mon_header.specs.Actions.{FitsAction, AllFit};
 
-use crate::action::Action;
+use crate::action::{Action, same_action};
 use mon_list::OutOfMemory;
 use std::alloc::Global;
 use std::marker::Model;
@@ -54,10 +54,43 @@ impl Actions {
         &self.items
     }
 
+    /// The same actions once more, in order.
+    pub fn copied(&self, alloc: Global) -> Result<Actions, OutOfMemory>
+        ensures { IfOk result (λ l. l ≡ self.now) }
+    {
+        let mut items = Vec::new(alloc);
+        for action in &self.items {
+            items.push(action.copied(alloc)?)?;
+        }
+        Ok(Actions { items })
+    }
+
     /// Hands the actions out.
     pub fn into_items(self) -> Vec<Action>
         ensures { result.items ≡ self }
     {
         self.items
     }
+}
+
+/// Whether two runs of actions are equal, place by place.
+fn same_items(xs: &[Action], ys: &[Action]) -> bool
+    ensures { IsTrue result ↔ (xs.now ≡ ys.now) }
+{
+    if xs.len() != ys.len() {
+        return false;
+    }
+    for (i, x) in xs.iter().enumerate() {
+        if !same_action(x, &ys[i]) {
+            return false;
+        }
+    }
+    true
+}
+
+/// Whether two lists have the same actions in the same order.
+pub fn same_actions(a: &Actions, b: &Actions) -> bool
+    ensures { IsTrue result ↔ (a.now ≡ b.now) }
+{
+    same_items(a.items(), b.items())
 }

@@ -4,12 +4,21 @@
 mod action;
 mod actions;
 mod header;
+mod laws;
 mod matching;
+mod order;
+mod places;
 mod wild;
 
-pub use action::{Action, RawAction};
-pub use actions::Actions;
+pub use action::{Action, RawAction, same_action};
+pub use actions::{Actions, same_actions};
 pub use header::Header;
+pub use laws::{
+    bits_are_the_header, covering_is_taking_all, normal_is_kept, order_is_strict_and_total,
+    overlapping_is_a_shared_header,
+};
 pub use matching::{Match, covers, effective, matches, overlaps};
 pub use mon_list::OutOfMemory;
+pub use order::{match_before, same_header, same_match};
+pub use places::{bit, from_bits};
 pub use wild::Wildcards;
