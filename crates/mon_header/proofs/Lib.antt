@@ -9,3 +9,4 @@ pub mod Covering
 pub mod Bits
 pub mod Spelling
 pub mod Placing
+pub mod Classing

@@ -19,18 +19,18 @@ pub record Twelve (a b c d e f g h i j k l : Bool) : Type 0 where
   pub tp_src : k ≡ true
   pub tp_dst : l ≡ true
 
-first : (a b : Bool) → (a && b) ≡ true → a ≡ true
+pub first : (a b : Bool) → (a && b) ≡ true → a ≡ true
 first true b p = refl
 first false b p = p
 
-second : (a b : Bool) → (a && b) ≡ true → b ≡ true
+pub second : (a b : Bool) → (a && b) ≡ true → b ≡ true
 second true b p = p
 second false b p = absurd cc
 
-both : (a b : Bool) → a ≡ true → b ≡ true → (a && b) ≡ true
+pub both : (a b : Bool) → a ≡ true → b ≡ true → (a && b) ≡ true
 both a b p q = ap (λ (x : Bool). x && b) p ∙ q
 
-split : (a b c d e f g h i j k l : Bool) → (a && (b && (c && (d && (e && (f && (g && (h && (i && (j && (k && l))))))))))) ≡ true → Twelve a b c d e f g h i j k l
+pub split : (a b c d e f g h i j k l : Bool) → (a && (b && (c && (d && (e && (f && (g && (h && (i && (j && (k && l))))))))))) ≡ true → Twelve a b c d e f g h i j k l
 split a b c d e f g h i j k l p0 =
     let p1 : (b && (c && (d && (e && (f && (g && (h && (i && (j && (k && l)))))))))) ≡ true = second _ _ p0 in
     let p2 : (c && (d && (e && (f && (g && (h && (i && (j && (k && l))))))))) ≡ true = second _ _ p1 in
@@ -58,7 +58,7 @@ split a b c d e f g h i j k l p0 =
       tp_dst = p11;
     }
 
-join : (a b c d e f g h i j k l : Bool) → Twelve a b c d e f g h i j k l → (a && (b && (c && (d && (e && (f && (g && (h && (i && (j && (k && l))))))))))) ≡ true
+pub join : (a b c d e f g h i j k l : Bool) → Twelve a b c d e f g h i j k l → (a && (b && (c && (d && (e && (f && (g && (h && (i && (j && (k && l))))))))))) ≡ true
 join a b c d e f g h i j k l t = both _ _ t.in_port (both _ _ t.dl_src (both _ _ t.dl_dst (both _ _ t.dl_vlan (both _ _ t.dl_vlan_pcp (both _ _ t.dl_type (both _ _ t.nw_tos (both _ _ t.nw_proto (both _ _ t.nw_src (both _ _ t.nw_dst (both _ _ t.tp_src t.tp_dst))))))))))
 
 -- the match takes the header, field by field

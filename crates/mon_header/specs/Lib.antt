@@ -5,3 +5,4 @@ pub mod Laws
 pub mod Places
 pub mod Raw
 pub mod Actions
+pub mod Classes

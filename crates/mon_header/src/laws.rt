@@ -1,11 +1,13 @@
 //! What the words on matches mean, whatever the match. These functions do nothing: each is its law.
 
 ghost use Rattle.std.specs.Prelude.{◌≡◌, ◌↔◌, Bool, IsTrue, false, List, length};
+ghost use Rattle.mon_header.specs.declared.class.Class.{Class};
 ghost use Rattle.mon_header.specs.declared.header.Header.{Header};
 ghost use Rattle.mon_header.specs.Wild.{packed, unpacked};
 ghost use Rattle.mon_header.specs.Matching.{Matching, InRange, IsNormal, normal, covers, overlaps};
 ghost use Rattle.mon_header.specs.Order.{match_before};
 ghost use Rattle.mon_header.specs.Laws.{ShareHeader, TakesAllOf};
+ghost use Rattle.mon_header.specs.Classes.{is_in_class, in_class};
 ghost use Rattle.mon_header.specs.Places.{header_bits, header_of};
 
 /// Two matches overlap exactly where some header is taken by both.
@@ -38,4 +40,11 @@ pub fn bits_are_the_header()
     ensures read { (h : Header) → InRange h → header_of (header_bits h) ≡ h }
     ensures written { (bits : List Bool) → length bits ≡ 264 → header_bits (header_of bits) ≡ bits }
     ensures range { (bits : List Bool) → InRange (header_of bits) }
+{}
+
+/// A header that a frame can have is in one class, and its numbers fit their fields.
+pub fn classes_are_apart()
+    ensures some { (h : Header) → IsTrue (in_class h) ↔ ((c : Class) × IsTrue (is_in_class c h)) }
+    ensures one { (c d : Class) (h : Header) → IsTrue (is_in_class c h) → IsTrue (is_in_class d h) → c ≡ d }
+    ensures range { (c : Class) (h : Header) → IsTrue (is_in_class c h) → InRange h }
 {}

@@ -3,6 +3,9 @@
 
 mod action;
 mod actions;
+#[cfg(test)]
+mod cases;
+mod class;
 mod header;
 mod laws;
 mod matching;
@@ -12,10 +15,11 @@ mod wild;
 
 pub use action::{Action, RawAction, same_action};
 pub use actions::{Actions, same_actions};
+pub use class::{Class, in_class, is_in_class};
 pub use header::Header;
 pub use laws::{
-    bits_are_the_header, covering_is_taking_all, normal_is_kept, order_is_strict_and_total,
-    overlapping_is_a_shared_header,
+    bits_are_the_header, classes_are_apart, covering_is_taking_all, normal_is_kept,
+    order_is_strict_and_total, overlapping_is_a_shared_header,
 };
 pub use matching::{Match, covers, effective, matches, overlaps};
 pub use mon_list::OutOfMemory;
