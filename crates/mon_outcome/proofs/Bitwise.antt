@@ -57,19 +57,19 @@ over-header : (r : Rewrite) (h : Header) → over (rewrite_bits r) (header_bits 
 unfolding laid plain.laid
 over-header r h =
     over-parts (
-      record { count = 16; field = r.in_port; value = h.in_port }
-      ∷ record { count = 48; field = r.dl_src; value = h.dl_src }
-      ∷ record { count = 48; field = r.dl_dst; value = h.dl_dst }
-      ∷ record { count = 16; field = r.dl_vlan; value = h.dl_vlan }
-      ∷ record { count = 8; field = r.dl_vlan_pcp; value = h.dl_vlan_pcp }
-      ∷ record { count = 16; field = r.dl_type; value = h.dl_type }
-      ∷ record { count = 8; field = r.nw_tos; value = h.nw_tos }
-      ∷ record { count = 8; field = r.nw_proto; value = h.nw_proto }
-      ∷ record { count = 32; field = r.nw_src; value = h.nw_src }
-      ∷ record { count = 32; field = r.nw_dst; value = h.nw_dst }
-      ∷ record { count = 16; field = r.tp_src; value = h.tp_src }
-      ∷ record { count = 16; field = r.tp_dst; value = h.tp_dst }
-      ∷ []
+    record { count = 16; field = r.in_port; value = h.in_port }
+    ∷ record { count = 48; field = r.dl_src; value = h.dl_src }
+    ∷ record { count = 48; field = r.dl_dst; value = h.dl_dst }
+    ∷ record { count = 16; field = r.dl_vlan; value = h.dl_vlan }
+    ∷ record { count = 8; field = r.dl_vlan_pcp; value = h.dl_vlan_pcp }
+    ∷ record { count = 16; field = r.dl_type; value = h.dl_type }
+    ∷ record { count = 8; field = r.nw_tos; value = h.nw_tos }
+    ∷ record { count = 8; field = r.nw_proto; value = h.nw_proto }
+    ∷ record { count = 32; field = r.nw_src; value = h.nw_src }
+    ∷ record { count = 32; field = r.nw_dst; value = h.nw_dst }
+    ∷ record { count = 16; field = r.tp_src; value = h.tp_src }
+    ∷ record { count = 16; field = r.tp_dst; value = h.tp_dst }
+    ∷ []
     )
 
 pub filled-at : (r : Rewrite) (h : Header) (place : ℕ) → bit_at (filled r h) place ≡ filled_bit (bit_of r place) (bit_at h place)

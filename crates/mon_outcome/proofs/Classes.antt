@@ -245,4 +245,4 @@ pub emissions-show : (actions : List Action) (c : Class) (h : Header) → AllFit
 emissions-show [] c h f e = tt
 emissions-show (action ∷ actions) c h f e =
     one-shows (door_of action h.in_port) c h (emissions actions (act action h)) e
-      (emissions-show actions c (act action h) f.1 (acted-class c action h f.0 e))
+    (emissions-show actions c (act action h) f.1 (acted-class c action h f.0 e))

@@ -56,10 +56,10 @@ filled-ipv4 c r h k e = ap (λ (f : Option ℕ). filled_field f h.dl_type == 0x0
 filled-ports : (c : Class) (r : Rewrite) (h : Header) → Keeps r → has_form c h ≡ true → has_ports (filled r h) ≡ has_class_ports c
 filled-ports c r h k e =
     ap (λ (k : Header). has_ports k) (
-      let e1 : filled_field r.dl_type h.dl_type ≡ h.dl_type = ap (λ (f : Option ℕ). filled_field f h.dl_type) k.dl_type in
-      let e2 : filled_field r.nw_proto h.nw_proto ≡ h.nw_proto = ap (λ (f : Option ℕ). filled_field f h.nw_proto) k.nw_proto in
-      let P : ℕ → ℕ → Header = λ t p. record (filled r h) { dl_type = t; nw_proto = p } in
-      ap (λ (t : ℕ). P t (filled_field r.nw_proto h.nw_proto)) e1 ∙ ap (P h.dl_type) e2
+    let e1 : filled_field r.dl_type h.dl_type ≡ h.dl_type = ap (λ (f : Option ℕ). filled_field f h.dl_type) k.dl_type in
+    let e2 : filled_field r.nw_proto h.nw_proto ≡ h.nw_proto = ap (λ (f : Option ℕ). filled_field f h.nw_proto) k.nw_proto in
+    let P : ℕ → ℕ → Header = λ t p. record (filled r h) { dl_type = t; nw_proto = p } in
+    ap (λ (t : ℕ). P t (filled_field r.nw_proto h.nw_proto)) e1 ∙ ap (P h.dl_type) e2
     )
     ∙ class-ports c h e
 
@@ -69,28 +69,28 @@ filled-acted : (c : Class) (action : Action) (r : Rewrite) (h : Header) → Keep
 filled-acted c (Output port max_len) r h k e n = refl
 filled-acted c (SetVlanVid vid) r h k e n =
     ap (λ (x : ℕ). record (filled r h) { dl_vlan = vid % 4096; dl_vlan_pcp = x })
-      (chosen (is_untagged (filled r h)) (is_stripped r.dl_vlan) 0 h.dl_vlan_pcp r.dl_vlan_pcp (stripped r.dl_vlan h.dl_vlan n))
+    (chosen (is_untagged (filled r h)) (is_stripped r.dl_vlan) 0 h.dl_vlan_pcp r.dl_vlan_pcp (stripped r.dl_vlan h.dl_vlan n))
 filled-acted c (SetVlanPcp pcp) r h k e n =
     ap (λ (x : ℕ). record (filled r h) { dl_vlan = x; dl_vlan_pcp = pcp % 8 })
-      (chosen (is_untagged (filled r h)) (is_stripped r.dl_vlan) 0 h.dl_vlan r.dl_vlan (stripped r.dl_vlan h.dl_vlan n))
+    (chosen (is_untagged (filled r h)) (is_stripped r.dl_vlan) 0 h.dl_vlan r.dl_vlan (stripped r.dl_vlan h.dl_vlan n))
 filled-acted c StripVlan r h k e n = refl
 filled-acted c (SetDlSrc address) r h k e n = refl
 filled-acted c (SetDlDst address) r h k e n = refl
 filled-acted c (SetNwSrc address) r h k e n =
     ap (λ (x : ℕ). record (filled r h) { nw_src = x })
-      (chosen (is_ipv4 (filled r h)) (is_ipv4_class c) address h.nw_src r.nw_src (filled-ipv4 c r h k e))
+    (chosen (is_ipv4 (filled r h)) (is_ipv4_class c) address h.nw_src r.nw_src (filled-ipv4 c r h k e))
 filled-acted c (SetNwDst address) r h k e n =
     ap (λ (x : ℕ). record (filled r h) { nw_dst = x })
-      (chosen (is_ipv4 (filled r h)) (is_ipv4_class c) address h.nw_dst r.nw_dst (filled-ipv4 c r h k e))
+    (chosen (is_ipv4 (filled r h)) (is_ipv4_class c) address h.nw_dst r.nw_dst (filled-ipv4 c r h k e))
 filled-acted c (SetNwTos tos) r h k e n =
     ap (λ (x : ℕ). record (filled r h) { nw_tos = x })
-      (chosen (is_ipv4 (filled r h)) (is_ipv4_class c) (tos / 4 * 4) h.nw_tos r.nw_tos (filled-ipv4 c r h k e))
+    (chosen (is_ipv4 (filled r h)) (is_ipv4_class c) (tos / 4 * 4) h.nw_tos r.nw_tos (filled-ipv4 c r h k e))
 filled-acted c (SetTpSrc port) r h k e n =
     ap (λ (x : ℕ). record (filled r h) { tp_src = x })
-      (chosen (has_ports (filled r h)) (has_class_ports c) port h.tp_src r.tp_src (filled-ports c r h k e))
+    (chosen (has_ports (filled r h)) (has_class_ports c) port h.tp_src r.tp_src (filled-ports c r h k e))
 filled-acted c (SetTpDst port) r h k e n =
     ap (λ (x : ℕ). record (filled r h) { tp_dst = x })
-      (chosen (has_ports (filled r h)) (has_class_ports c) port h.tp_dst r.tp_dst (filled-ports c r h k e))
+    (chosen (has_ports (filled r h)) (has_class_ports c) port h.tp_dst r.tp_dst (filled-ports c r h k e))
 filled-acted c (Enqueue port queue) r h k e n = refl
 filled-acted c (Unknown bytes) r h k e n = refl
 
@@ -105,7 +105,7 @@ filled-from : (c : Class) (actions : List Action) (r : Rewrite) (h : Header) →
 filled-from c [] r h k e n = refl
 filled-from c (action ∷ actions) r h k e n =
     let rest = filled-from c actions (rewritten c action r) h (rewritten-keeps c action r k) e n
-        ∙ ap (emissions actions) (filled-acted c action r h k e n) in
+    ∙ ap (emissions actions) (filled-acted c action r h k e n) in
     let port : filled_field r.in_port h.in_port ≡ h.in_port = ap (λ (f : Option ℕ). filled_field f h.in_port) k.in_port in
     with-filled (door_of action h.in_port) r h (shapes_from c h.in_port actions (rewritten c action r)) _ rest
     ∙ ap (λ (p : ℕ). with_emission (door_of action p) (filled r h) (emissions actions (act action (filled r h)))) (sym port)
@@ -122,6 +122,6 @@ pub shapes-left : (shapes : List Shape) (items actions : List Action) (i : ℕ) 
 shapes-left shapes items actions i c in_port r same long e =
     let h : length actions ≤ i = let P : List Action → Type 0 = λ xs. length xs ≤ i in subst P same long in
     let all : shapes ≡ shapes_of actions c in_port =
-        sym (append-nil shapes) ∙ sym (at_drop_all (λ (rest : List Action). shapes ++ shapes_from c in_port rest r) actions i h) ∙ e in
+    sym (append-nil shapes) ∙ sym (at_drop_all (λ (rest : List Action). shapes ++ shapes_from c in_port rest r) actions i h) ∙ e in
     let P : List Shape → Type 0 = λ ss. AreEmissions ss actions c in_port in
     subst P (sym all) (shapes-emit actions c in_port)

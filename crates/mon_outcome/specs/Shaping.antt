@@ -15,8 +15,18 @@ use Rattle.mon_outcome.specs.Filling.{filled}
 -- nothing is fixed
 abbrev pub copied : Rewrite
 copied = record {
-  in_port = None; dl_src = None; dl_dst = None; dl_vlan = None; dl_vlan_pcp = None; dl_type = None;
-  nw_tos = None; nw_proto = None; nw_src = None; nw_dst = None; tp_src = None; tp_dst = None;
+  in_port = None;
+  dl_src = None;
+  dl_dst = None;
+  dl_vlan = None;
+  dl_vlan_pcp = None;
+  dl_type = None;
+  nw_tos = None;
+  nw_proto = None;
+  nw_src = None;
+  nw_dst = None;
+  tp_src = None;
+  tp_dst = None;
 }
 
 -- the tag was taken off

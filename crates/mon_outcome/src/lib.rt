@@ -7,6 +7,8 @@
 #![tactic(auto)]
 
 mod act;
+#[cfg(test)]
+mod cases;
 mod door;
 mod emission;
 mod laws;
@@ -17,7 +19,9 @@ mod shape;
 pub use act::apply;
 pub use door::Door;
 pub use emission::{Emission, same_emission};
-pub use laws::{apply_keeps_the_class, emissions_keep_the_class, filled_bits_are_bits, same_emissions_are_equal};
+pub use laws::{
+    apply_keeps_the_class, emissions_keep_the_class, filled_bits_are_bits, same_emissions_are_equal,
+};
 pub use mon_header::{Class, OutOfMemory};
 pub use outcome::{may, must};
 pub use rewrite::{Bit, Rewrite};

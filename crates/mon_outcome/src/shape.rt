@@ -145,7 +145,12 @@ fn rewritten(class: Class, action: &Action, r: Rewrite) -> Rewrite
 
 /// The shapes of the emissions of each header of the class that came in at the port and bears a tag, in list order.
 /// Those beside an unknown action are among them.
-pub fn rewrites(alloc: Global, a: &Actions, class: Class, in_port: u16) -> Result<Shapes, OutOfMemory>
+pub fn rewrites(
+    alloc: Global,
+    a: &Actions,
+    class: Class,
+    in_port: u16,
+) -> Result<Shapes, OutOfMemory>
     ensures value { IfOk result (λ shapes. shapes ≡ shapes_of a.now class in_port) }
     ensures emissions { IfOk result (λ shapes. AreEmissions shapes a.now class in_port) }
 {
