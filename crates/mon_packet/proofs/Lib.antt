@@ -4,3 +4,5 @@ pub mod Choosing
 pub mod Links
 pub mod Packets
 pub mod RoundTrip
+pub mod Checking
+pub mod SumsOfFrames

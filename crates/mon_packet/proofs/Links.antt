@@ -9,7 +9,7 @@ use Rattle.mon_header.specs.declared.header.Header.{Header}
 use Rattle.mon_header.specs.Matching.{InRange}
 use Rattle.mon_header.proofs.Twelve.{both}
 use Rattle.mon_packet.specs.declared.ethernet.Ethernet.{Ethernet}
-use Rattle.mon_packet.specs.Frames.{ethernet_header}
+use Rattle.mon_packet.specs.Frames.{ethernet_header, ethernet_size}
 use Rattle.mon_packet.specs.Reading.{pair_at, is_type, typed, ethernet_of}
 use Rattle.mon_packet.proofs.Choosing.{if-true, if-false, and-false}
 
@@ -43,13 +43,9 @@ tagged-read bytes s d t v p long tag et vs ps ett ist es ed =
     ∙ ap (λ (x : ℕ). typed bytes v x 18) ep
     ∙ typed-read bytes v p 18 s d t long ett ist es ed
 
--- the count of bytes of the header
-abbrev pub link_size : Header → ℕ
-link_size h = if h.dl_vlan == 0xffff then 14 else 18
-
 -- what the header says
 abbrev pub link : Header → Ethernet
-link h = record { dl_src = h.dl_src; dl_dst = h.dl_dst; dl_vlan = h.dl_vlan; dl_vlan_pcp = h.dl_vlan_pcp; dl_type = h.dl_type; size = link_size h }
+link h = record { dl_src = h.dl_src; dl_dst = h.dl_dst; dl_vlan = h.dl_vlan; dl_vlan_pcp = h.dl_vlan_pcp; dl_type = h.dl_type; size = ethernet_size h }
 
 abbrev plain_bytes : Header → List ℕ
 plain_bytes h = big_bytes 6 h.dl_dst ++ (big_bytes 6 h.dl_src ++ big_bytes 2 h.dl_type)
@@ -95,19 +91,19 @@ by-test false f g = g refl
 -- what is read of the header, and where what follows it begins
 pub link-read : (h : Header) (rest : List ℕ) → InRange h → is_type h.dl_type ≡ true
     → (h.dl_vlan ≡ 0xffff → h.dl_vlan_pcp ≡ 0) → (h.dl_vlan ≢ 0xffff → (h.dl_vlan < 4096) × (h.dl_vlan_pcp < 8))
-    → (ethernet_of (ethernet_header h ++ rest) ≡ Some (link h)) × (length (ethernet_header h) ≡ link_size h)
+    → (ethernet_of (ethernet_header h ++ rest) ≡ Some (link h)) × (length (ethernet_header h) ≡ ethernet_size h)
 link-read h rest r t no_tag tag =
     by-test (h.dl_vlan == 0xffff)
       (λ e.
         let v : h.dl_vlan ≡ 0xffff = eqb-true _ _ e in
         let p : h.dl_vlan_pcp ≡ 0 = no_tag v in
-        let size : link_size h ≡ 14 = if-true _ _ _ e in (
+        let size : ethernet_size h ≡ 14 = if-true _ _ _ e in (
           ap (λ (front : List ℕ). ethernet_of (front ++ rest)) (header-plain h e) ∙ plain-link h rest r t ∙ simp (v, p),
           ap (λ (front : List ℕ). length front) (header-plain h e) ∙ sym size,
         ))
       (λ e.
         let n : h.dl_vlan ≢ 0xffff = λ (v : h.dl_vlan ≡ 0xffff). absurd (let y : (h.dl_vlan == 0xffff) ≡ true = eq-eqb _ _ v in cc) in
-        let size : link_size h ≡ 18 = if-false _ _ _ e in (
+        let size : ethernet_size h ≡ 18 = if-false _ _ _ e in (
           ap (λ (front : List ℕ). ethernet_of (front ++ rest)) (header-tagged h e)
           ∙ tagged-link h rest r (tag n).0 (tag n).1 t ∙ ap (λ (k : ℕ). Some (record (link h) { size = k })) (sym size),
           ap (λ (front : List ℕ). length front) (header-tagged h e) ∙ sym size,

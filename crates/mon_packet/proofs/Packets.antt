@@ -29,7 +29,7 @@ nonce-read n rest r =
     if-true _ _ _ (both _ _ (le-leb 24 (length (payload n ++ rest)) (omega arith)) (eq-eqb _ _ m)) ∙ simp (k, s)
 
 -- what a packet's header says, whatever stands behind it
-total-read : (h : Header) (size sum : ℕ) (rest : List ℕ) → size < 1000 → total_of (ipv4_header h size sum ++ rest) ≡ 20 + size
+pub total-read : (h : Header) (size sum : ℕ) (rest : List ℕ) → size < 1000 → total_of (ipv4_header h size sum ++ rest) ≡ 20 + size
 unfolding ipv4_header
 total-read h size sum rest s = big_number-reads_back 2 (20 + size) (drop 4 (ipv4_header h size sum ++ rest)) (omega arith)
 
@@ -59,7 +59,7 @@ tos-read : (h : Header) (size sum : ℕ) (rest : List ℕ) → slice_index (ipv4
 unfolding ipv4_header
 tos-read h size sum rest = refl
 
-proto-read : (h : Header) (size sum : ℕ) (rest : List ℕ) → slice_index (ipv4_header h size sum ++ rest) 9 ≡ h.nw_proto
+pub proto-read : (h : Header) (size sum : ℕ) (rest : List ℕ) → slice_index (ipv4_header h size sum ++ rest) 9 ≡ h.nw_proto
 unfolding ipv4_header
 proto-read h size sum rest = refl
 

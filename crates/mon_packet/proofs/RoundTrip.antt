@@ -14,12 +14,12 @@ use Rattle.mon_packet.specs.declared.nonce.Nonce.{Nonce}
 use Rattle.mon_packet.specs.declared.ethernet.Ethernet.{Ethernet}
 use Rattle.mon_packet.specs.declared.transport.Transport.{Transport}
 use Rattle.mon_packet.specs.Sums.{checksum}
-use Rattle.mon_packet.specs.Frames.{payload, ethernet_header, ipv4_header, tcp_header, udp_header, icmp_header, tcp_sum, udp_sum, icmp_sum, transport_header, transport_size, network_headers, body, padding, rendered}
+use Rattle.mon_packet.specs.Frames.{payload, ethernet_header, ethernet_size, ipv4_header, tcp_header, udp_header, icmp_header, tcp_sum, udp_sum, icmp_sum, transport_header, transport_size, network_headers, body, padding, rendered}
 use Rattle.mon_packet.specs.Reading.{is_type, nonce_of, transport_of, plain_header, ethernet_of, packet_of, with_ethernet, Read, parsed}
 use Rattle.mon_packet.specs.Laws.{ReadsBack}
 use Rattle.mon_packet.proofs.Choosing.{if-true, if-false}
 use Rattle.mon_packet.proofs.Fitting.{IsOf, class-parts, Tagged, tag-fits, untagged-pcp}
-use Rattle.mon_packet.proofs.Links.{link, link_size, link-read}
+use Rattle.mon_packet.proofs.Links.{link, link-read}
 use Rattle.mon_packet.proofs.Packets.{IsNonce, nonce-read, shown, packet-read, tcp-read, udp-read, icmp-read}
 
 -- the header without its port
@@ -27,35 +27,35 @@ abbrev portless : Header → Header
 portless h = record h { in_port = 0 }
 
 -- the headers of a packet, by protocol
-tcp-headers : (h : Header) (n : Nonce) → h.nw_proto ≡ 6
+pub tcp-headers : (h : Header) (n : Nonce) → h.nw_proto ≡ 6
     → network_headers h n ≡ ipv4_header h 44 (checksum (ipv4_header h 44 0)) ++ tcp_header h (tcp_sum h n)
 unfolding network_headers transport_header
 tcp-headers h n e = simp e
 
-udp-headers : (h : Header) (n : Nonce) → h.nw_proto ≡ 17
+pub udp-headers : (h : Header) (n : Nonce) → h.nw_proto ≡ 17
     → network_headers h n ≡ ipv4_header h 32 (checksum (ipv4_header h 32 0)) ++ udp_header h (udp_sum h n)
 unfolding network_headers transport_header
 udp-headers h n e = simp e
 
-icmp-headers : (h : Header) (n : Nonce) → h.nw_proto ≡ 1
+pub icmp-headers : (h : Header) (n : Nonce) → h.nw_proto ≡ 1
     → network_headers h n ≡ ipv4_header h 32 (checksum (ipv4_header h 32 0)) ++ icmp_header h (icmp_sum h n)
 unfolding network_headers transport_header
 icmp-headers h n e = simp e
 
-other-headers : (h : Header) (n : Nonce) → (h.nw_proto == 6) ≡ false → (h.nw_proto == 17) ≡ false → (h.nw_proto == 1) ≡ false
+pub other-headers : (h : Header) (n : Nonce) → (h.nw_proto == 6) ≡ false → (h.nw_proto == 17) ≡ false → (h.nw_proto == 1) ≡ false
     → network_headers h n ≡ ipv4_header h 24 (checksum (ipv4_header h 24 0)) ++ []
 unfolding network_headers transport_header
 other-headers h n a b c = simp (a, b, c)
 
 -- a header in a class is read from the front of its frame
-front-read : (c : Class) (h : Header) (rest : List ℕ) → IsOf c h → is_type h.dl_type ≡ true
-    → (ethernet_of (ethernet_header h ++ rest) ≡ Some (link h)) × (length (ethernet_header h) ≡ link_size h)
+pub front-read : (c : Class) (h : Header) (rest : List ℕ) → IsOf c h → is_type h.dl_type ≡ true
+    → (ethernet_of (ethernet_header h ++ rest) ≡ Some (link h)) × (length (ethernet_header h) ≡ ethernet_size h)
 front-read c h rest p t =
     link-read h rest p.range t (untagged-pcp h p.tag)
       (λ (v : h.dl_vlan ≢ 0xffff). let f : Tagged h = tag-fits h p.tag v in (f.vlan, f.pcp))
 
 -- a frame is its headers, its payload and zeros
-laid-out : (h : Header) (n : Nonce) → (pad : List ℕ) × (rendered h n ≡ ethernet_header h ++ (body h n ++ pad))
+pub laid-out : (h : Header) (n : Nonce) → (pad : List ℕ) × (rendered h n ≡ ethernet_header h ++ (body h n ++ pad))
 unfolding rendered
 laid-out h n =
     let pad : List ℕ = padding (length (ethernet_header h ++ body h n)) in
@@ -67,7 +67,7 @@ read-packet c h rest p e =
     let f = front-read c h rest p (ap is_type e) in
     ap (with_ethernet (ethernet_header h ++ rest)) f.0
     ∙ if-true _ _ _ (eq-eqb _ _ e)
-    ∙ ap (packet_of (link h)) (drop_at (ethernet_header h) rest (link_size h) f.1)
+    ∙ ap (packet_of (link h)) (drop_at (ethernet_header h) rest (ethernet_size h) f.1)
 
 read-plain : (c : Class) (h : Header) (rest : List ℕ) → IsOf c h → is_type h.dl_type ≡ true → (h.dl_type == 0x0800) ≡ false
     → parsed (ethernet_header h ++ rest) ≡ Some (plain_header (link h), nonce_of rest)
@@ -75,10 +75,10 @@ read-plain c h rest p t e =
     let f = front-read c h rest p t in
     ap (with_ethernet (ethernet_header h ++ rest)) f.0
     ∙ if-false _ _ _ e
-    ∙ ap (λ (r : List ℕ). Some (plain_header (link h), nonce_of r)) (drop_at (ethernet_header h) rest (link_size h) f.1)
+    ∙ ap (λ (r : List ℕ). Some (plain_header (link h), nonce_of r)) (drop_at (ethernet_header h) rest (ethernet_size h) f.1)
 
 -- what follows the header of Ethernet, by type
-packet-body : (h : Header) (n : Nonce) (ip next pad : List ℕ) → h.dl_type ≡ 0x0800 → network_headers h n ≡ ip ++ next
+pub packet-body : (h : Header) (n : Nonce) (ip next pad : List ℕ) → h.dl_type ≡ 0x0800 → network_headers h n ≡ ip ++ next
     → body h n ++ pad ≡ ip ++ (next ++ (payload n ++ pad))
 unfolding body
 packet-body h n ip next pad e heads =
@@ -148,15 +148,15 @@ other-packet h n sum pad r low k a b c es ed =
     ∙ ap (λ (x : ℕ). Some (record (portless h) { tp_src = x; tp_dst = 0 }, Some n)) (sym es)
     ∙ ap (λ (x : ℕ). Some (record (portless h) { tp_dst = x }, Some n)) (sym ed)
 
-record OtherForm (h : Header) : Type 0 where
-  type : h.dl_type ≡ 0x0800
-  icmp : (h.nw_proto == 1) ≡ false
-  tcp : (h.nw_proto == 6) ≡ false
-  udp : (h.nw_proto == 17) ≡ false
-  src : h.tp_src ≡ 0
-  dst : h.tp_dst ≡ 0
+pub record OtherForm (h : Header) : Type 0 where
+  pub type : h.dl_type ≡ 0x0800
+  pub icmp : (h.nw_proto == 1) ≡ false
+  pub tcp : (h.nw_proto == 6) ≡ false
+  pub udp : (h.nw_proto == 17) ≡ false
+  pub src : h.tp_src ≡ 0
+  pub dst : h.tp_dst ≡ 0
 
-other-form : (h : Header) → has_form OtherIpv4 h ≡ true → OtherForm h
+pub other-form : (h : Header) → has_form OtherIpv4 h ≡ true → OtherForm h
 unfolding has_form
 other-form h e = record {
   type = grind (arith, nat_tests);
@@ -167,17 +167,17 @@ other-form h e = record {
   dst = grind (arith, nat_tests);
 }
 
-record PlainForm (h : Header) : Type 0 where
-  type : is_type h.dl_type ≡ true
-  ip : (h.dl_type == 0x0800) ≡ false
-  tos : h.nw_tos ≡ 0
-  proto : h.nw_proto ≡ 0
-  nw_src : h.nw_src ≡ 0
-  nw_dst : h.nw_dst ≡ 0
-  tp_src : h.tp_src ≡ 0
-  tp_dst : h.tp_dst ≡ 0
+pub record PlainForm (h : Header) : Type 0 where
+  pub type : is_type h.dl_type ≡ true
+  pub ip : (h.dl_type == 0x0800) ≡ false
+  pub tos : h.nw_tos ≡ 0
+  pub proto : h.nw_proto ≡ 0
+  pub nw_src : h.nw_src ≡ 0
+  pub nw_dst : h.nw_dst ≡ 0
+  pub tp_src : h.tp_src ≡ 0
+  pub tp_dst : h.tp_dst ≡ 0
 
-plain-form : (h : Header) → has_form Plain h ≡ true → PlainForm h
+pub plain-form : (h : Header) → has_form Plain h ≡ true → PlainForm h
 unfolding has_form is_plain_type has_no_network_fields
 plain-form h e = record {
   type = grind (arith, nat_tests);
@@ -194,16 +194,16 @@ plain-shown : (h : Header) → PlainForm h → plain_header (link h) ≡ portles
 unfolding plain_header
 plain-shown h f = simp (f.tos, f.proto, f.nw_src, f.nw_dst, f.tp_src, f.tp_dst)
 
-record IpForm (h : Header) (protocol : ℕ) : Type 0 where
-  type : h.dl_type ≡ 0x0800
-  proto : h.nw_proto ≡ protocol
+pub record IpForm (h : Header) (protocol : ℕ) : Type 0 where
+  pub type : h.dl_type ≡ 0x0800
+  pub proto : h.nw_proto ≡ protocol
 
-ip-form : (h : Header) (protocol : ℕ) (more : Bool) → ((h.dl_type == 0x0800) && ((h.nw_proto == protocol) && more)) ≡ true → IpForm h protocol
+pub ip-form : (h : Header) (protocol : ℕ) (more : Bool) → ((h.dl_type == 0x0800) && ((h.nw_proto == protocol) && more)) ≡ true → IpForm h protocol
 ip-form h protocol more e =
     let rest = second (h.dl_type == 0x0800) _ e in
     record { type = eqb-true _ _ (first _ _ e); proto = eqb-true _ _ (first _ _ rest) }
 
-two-form : (h : Header) (protocol : ℕ) → ((h.dl_type == 0x0800) && (h.nw_proto == protocol)) ≡ true → IpForm h protocol
+pub two-form : (h : Header) (protocol : ℕ) → ((h.dl_type == 0x0800) && (h.nw_proto == protocol)) ≡ true → IpForm h protocol
 two-form h protocol e = record { type = eqb-true _ _ (first _ _ e); proto = eqb-true _ _ (second (h.dl_type == 0x0800) _ e) }
 
 class-back : (c : Class) (h : Header) (n : Nonce) → IsOf c h → IsNonce n → parsed (rendered h n) ≡ Some (portless h, Some n)

@@ -17,6 +17,10 @@ ethernet_header h =
     ++ (if h.dl_vlan == 0xffff then big_bytes 2 h.dl_type
         else big_bytes 2 0x8100 ++ (big_bytes 2 (h.dl_vlan_pcp * 8192 + h.dl_vlan) ++ big_bytes 2 h.dl_type)))
 
+-- its count of bytes
+abbrev pub ethernet_size : Header → ℕ
+ethernet_size h = if h.dl_vlan == 0xffff then 14 else 18
+
 -- the header of an IPv4 packet with so many bytes behind it, and this checksum
 unfoldable pub ipv4_header : Header → ℕ → ℕ → List ℕ
 ipv4_header h size sum =

@@ -15,7 +15,7 @@ mod writing;
 mod sums;
 mod transport;
 
-pub use laws::written_is_read;
+pub use laws::{checksums_are_right, written_is_read};
 pub use mon_header::{OutOfMemory, in_class};
 pub use nonce::Nonce;
 pub use reading::parse;
