@@ -66,23 +66,23 @@ header-tagged h e = ap (λ (rest : List ℕ). big_bytes 6 h.dl_dst ++ (big_bytes
 
 plain-link : (h : Header) (rest : List ℕ) → InRange h → is_type h.dl_type ≡ true
     → ethernet_of (plain_bytes h ++ rest)
-      ≡ Some (record { dl_src = h.dl_src; dl_dst = h.dl_dst; dl_vlan = 0xffff; dl_vlan_pcp = 0; dl_type = h.dl_type; size = 14 })
+    ≡ Some (record { dl_src = h.dl_src; dl_dst = h.dl_dst; dl_vlan = 0xffff; dl_vlan_pcp = 0; dl_type = h.dl_type; size = 14 })
 plain-link h rest r t =
     plain-read (plain_bytes h ++ rest) h.dl_src h.dl_dst h.dl_type (omega arith)
-      (big_number-reads_back 2 h.dl_type rest r.dl_type) t
-      (big_number-reads_back 6 h.dl_src (big_bytes 2 h.dl_type ++ rest) r.dl_src)
-      (big_number-reads_back 6 h.dl_dst (big_bytes 6 h.dl_src ++ (big_bytes 2 h.dl_type ++ rest)) r.dl_dst)
+    (big_number-reads_back 2 h.dl_type rest r.dl_type) t
+    (big_number-reads_back 6 h.dl_src (big_bytes 2 h.dl_type ++ rest) r.dl_src)
+    (big_number-reads_back 6 h.dl_dst (big_bytes 6 h.dl_src ++ (big_bytes 2 h.dl_type ++ rest)) r.dl_dst)
 
 tagged-link : (h : Header) (rest : List ℕ) → InRange h → h.dl_vlan < 4096 → h.dl_vlan_pcp < 8 → is_type h.dl_type ≡ true
     → ethernet_of (tagged_bytes h ++ rest)
-      ≡ Some (record { dl_src = h.dl_src; dl_dst = h.dl_dst; dl_vlan = h.dl_vlan; dl_vlan_pcp = h.dl_vlan_pcp; dl_type = h.dl_type; size = 18 })
+    ≡ Some (record { dl_src = h.dl_src; dl_dst = h.dl_dst; dl_vlan = h.dl_vlan; dl_vlan_pcp = h.dl_vlan_pcp; dl_type = h.dl_type; size = 18 })
 tagged-link h rest r v p t =
     tagged-read (tagged_bytes h ++ rest) h.dl_src h.dl_dst h.dl_type h.dl_vlan h.dl_vlan_pcp (omega arith)
-      refl
-      (big_number-reads_back 2 (h.dl_vlan_pcp * 8192 + h.dl_vlan) (big_bytes 2 h.dl_type ++ rest) (omega arith)) v p
-      (big_number-reads_back 2 h.dl_type rest r.dl_type) t
-      (big_number-reads_back 6 h.dl_src (drop 12 (tagged_bytes h ++ rest)) r.dl_src)
-      (big_number-reads_back 6 h.dl_dst (drop 6 (tagged_bytes h ++ rest)) r.dl_dst)
+    refl
+    (big_number-reads_back 2 (h.dl_vlan_pcp * 8192 + h.dl_vlan) (big_bytes 2 h.dl_type ++ rest) (omega arith)) v p
+    (big_number-reads_back 2 h.dl_type rest r.dl_type) t
+    (big_number-reads_back 6 h.dl_src (drop 12 (tagged_bytes h ++ rest)) r.dl_src)
+    (big_number-reads_back 6 h.dl_dst (drop 6 (tagged_bytes h ++ rest)) r.dl_dst)
 
 by-test : (b : Bool) {P : Type 0} → (b ≡ true → P) → (b ≡ false → P) → P
 by-test true f g = f refl
@@ -94,17 +94,17 @@ pub link-read : (h : Header) (rest : List ℕ) → InRange h → is_type h.dl_ty
     → (ethernet_of (ethernet_header h ++ rest) ≡ Some (link h)) × (length (ethernet_header h) ≡ ethernet_size h)
 link-read h rest r t no_tag tag =
     by-test (h.dl_vlan == 0xffff)
-      (λ e.
-        let v : h.dl_vlan ≡ 0xffff = eqb-true _ _ e in
-        let p : h.dl_vlan_pcp ≡ 0 = no_tag v in
-        let size : ethernet_size h ≡ 14 = if-true _ _ _ e in (
-          ap (λ (front : List ℕ). ethernet_of (front ++ rest)) (header-plain h e) ∙ plain-link h rest r t ∙ simp (v, p),
-          ap (λ (front : List ℕ). length front) (header-plain h e) ∙ sym size,
-        ))
-      (λ e.
-        let n : h.dl_vlan ≢ 0xffff = λ (v : h.dl_vlan ≡ 0xffff). absurd (let y : (h.dl_vlan == 0xffff) ≡ true = eq-eqb _ _ v in cc) in
-        let size : ethernet_size h ≡ 18 = if-false _ _ _ e in (
-          ap (λ (front : List ℕ). ethernet_of (front ++ rest)) (header-tagged h e)
+    (λ e.
+    let v : h.dl_vlan ≡ 0xffff = eqb-true _ _ e in
+    let p : h.dl_vlan_pcp ≡ 0 = no_tag v in
+    let size : ethernet_size h ≡ 14 = if-true _ _ _ e in (
+      ap (λ (front : List ℕ). ethernet_of (front ++ rest)) (header-plain h e) ∙ plain-link h rest r t ∙ simp (v, p),
+      ap (λ (front : List ℕ). length front) (header-plain h e) ∙ sym size,
+    ))
+    (λ e.
+    let n : h.dl_vlan ≢ 0xffff = λ (v : h.dl_vlan ≡ 0xffff). absurd (let y : (h.dl_vlan == 0xffff) ≡ true = eq-eqb _ _ v in cc) in
+    let size : ethernet_size h ≡ 18 = if-false _ _ _ e in (
+      ap (λ (front : List ℕ). ethernet_of (front ++ rest)) (header-tagged h e)
           ∙ tagged-link h rest r (tag n).0 (tag n).1 t ∙ ap (λ (k : ℕ). Some (record (link h) { size = k })) (sym size),
-          ap (λ (front : List ℕ). length front) (header-tagged h e) ∙ sym size,
-        ))
+      ap (λ (front : List ℕ). length front) (header-tagged h e) ∙ sym size,
+    ))

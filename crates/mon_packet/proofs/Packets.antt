@@ -23,7 +23,7 @@ pub nonce-read : (n : Nonce) (rest : List ℕ) → IsNonce n → nonce_of (paylo
 unfolding payload nonce_of
 nonce-read n rest r =
     let m : big_number 8 (payload n ++ rest) ≡ 0x4d4f4e4f434c4531 =
-      big_number-reads_back 8 0x4d4f4e4f434c4531 (drop 8 (payload n ++ rest)) (omega arith) in
+    big_number-reads_back 8 0x4d4f4e4f434c4531 (drop 8 (payload n ++ rest)) (omega arith) in
     let k : big_number 8 (drop 8 (payload n ++ rest)) ≡ n.key = big_number-reads_back 8 n.key (drop 16 (payload n ++ rest)) r.key in
     let s : big_number 8 (drop 16 (payload n ++ rest)) ≡ n.serial = big_number-reads_back 8 n.serial rest r.serial in
     if-true _ _ _ (both _ _ (le-leb 24 (length (payload n ++ rest)) (omega arith)) (eq-eqb _ _ m)) ∙ simp (k, s)
@@ -51,9 +51,9 @@ is-read h size sum rest s l =
     let t : total_of (ipv4_header h size sum ++ rest) ≡ 20 + size = total-read h size sum rest s in
     let long : length (ipv4_header h size sum ++ rest) ≡ 20 + length rest = header-long h size sum rest in
     both _ _ (le-leb 20 (length (ipv4_header h size sum ++ rest)) (omega arith))
-      (both _ _ refl
-        (both _ _ (le-leb 20 (total_of (ipv4_header h size sum ++ rest)) (omega arith))
-          (both _ _ (le-leb (total_of (ipv4_header h size sum ++ rest)) (length (ipv4_header h size sum ++ rest)) (omega arith)) refl)))
+    (both _ _ refl
+    (both _ _ (le-leb 20 (total_of (ipv4_header h size sum ++ rest)) (omega arith))
+    (both _ _ (le-leb (total_of (ipv4_header h size sum ++ rest)) (length (ipv4_header h size sum ++ rest)) (omega arith)) refl)))
 
 tos-read : (h : Header) (size sum : ℕ) (rest : List ℕ) → slice_index (ipv4_header h size sum ++ rest) 1 ≡ h.nw_tos
 unfolding ipv4_header
@@ -66,8 +66,18 @@ proto-read h size sum rest = refl
 -- the header that a packet and its frame show
 abbrev pub shown : Ethernet → Header → Transport → Header
 shown e h t = record {
-  in_port = 0; dl_src = e.dl_src; dl_dst = e.dl_dst; dl_vlan = e.dl_vlan; dl_vlan_pcp = e.dl_vlan_pcp; dl_type = e.dl_type;
-  nw_tos = h.nw_tos; nw_proto = h.nw_proto; nw_src = h.nw_src; nw_dst = h.nw_dst; tp_src = t.tp_src; tp_dst = t.tp_dst;
+  in_port = 0;
+  dl_src = e.dl_src;
+  dl_dst = e.dl_dst;
+  dl_vlan = e.dl_vlan;
+  dl_vlan_pcp = e.dl_vlan_pcp;
+  dl_type = e.dl_type;
+  nw_tos = h.nw_tos;
+  nw_proto = h.nw_proto;
+  nw_src = h.nw_src;
+  nw_dst = h.nw_dst;
+  tp_src = t.tp_src;
+  tp_dst = t.tp_dst;
 }
 
 fields-read : (e : Ethernet) (t : Transport) (h : Header) (size sum : ℕ) (rest : List ℕ) → InRange h → h.nw_tos % 4 ≡ 0
@@ -102,7 +112,7 @@ tcp-read h sum check rest r =
     let d : pair_at 22 packet ≡ h.tp_dst = big_number-reads_back 2 h.tp_dst (drop 24 packet) r.tp_dst in
     let found : ℕ → ℕ → Option Transport = λ x y. Some (record { tp_src = x; tp_dst = y; end = 40 }) in
     if-true (nat_le 40 (total_of packet) && (slice_index packet 32 / 16 == 5)) (found (pair_at 20 packet) (pair_at 22 packet)) None
-      (both (nat_le 40 (total_of packet)) (slice_index packet 32 / 16 == 5) (le-leb 40 (total_of packet) (omega arith)) refl)
+    (both (nat_le 40 (total_of packet)) (slice_index packet 32 / 16 == 5) (le-leb 40 (total_of packet) (omega arith)) refl)
     ∙ ap (λ (x : ℕ). found x (pair_at 22 packet)) s
     ∙ ap (found h.tp_src) d
 
@@ -117,8 +127,8 @@ udp-read h sum check rest r =
     let d : pair_at 22 packet ≡ h.tp_dst = big_number-reads_back 2 h.tp_dst (drop 24 packet) r.tp_dst in
     let found : ℕ → ℕ → Option Transport = λ x y. Some (record { tp_src = x; tp_dst = y; end = 28 }) in
     if-true (nat_le 28 (total_of packet) && (pair_at 24 packet == total_of packet - 20)) (found (pair_at 20 packet) (pair_at 22 packet)) None
-      (both (nat_le 28 (total_of packet)) (pair_at 24 packet == total_of packet - 20) (le-leb 28 (total_of packet) (omega arith))
-        (eq-eqb (pair_at 24 packet) (total_of packet - 20) (omega arith)))
+    (both (nat_le 28 (total_of packet)) (pair_at 24 packet == total_of packet - 20) (le-leb 28 (total_of packet) (omega arith))
+    (eq-eqb (pair_at 24 packet) (total_of packet - 20) (omega arith)))
     ∙ ap (λ (x : ℕ). found x (pair_at 22 packet)) s
     ∙ ap (found h.tp_src) d
 
@@ -132,6 +142,6 @@ icmp-read h sum check rest ps pd =
     let d : slice_index packet 21 ≡ h.tp_dst = omega arith in
     let found : ℕ → ℕ → Option Transport = λ x y. Some (record { tp_src = x; tp_dst = y; end = 28 }) in
     if-true (nat_le 28 (total_of packet)) (found (slice_index packet 20) (slice_index packet 21)) None
-      (le-leb 28 (total_of packet) (omega arith))
+    (le-leb 28 (total_of packet) (omega arith))
     ∙ ap (λ (x : ℕ). found x (slice_index packet 21)) s
     ∙ ap (found h.tp_src) d

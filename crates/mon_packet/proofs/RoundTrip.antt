@@ -52,7 +52,7 @@ pub front-read : (c : Class) (h : Header) (rest : List ℕ) → IsOf c h → is_
     → (ethernet_of (ethernet_header h ++ rest) ≡ Some (link h)) × (length (ethernet_header h) ≡ ethernet_size h)
 front-read c h rest p t =
     link-read h rest p.range t (untagged-pcp h p.tag)
-      (λ (v : h.dl_vlan ≢ 0xffff). let f : Tagged h = tag-fits h p.tag v in (f.vlan, f.pcp))
+    (λ (v : h.dl_vlan ≢ 0xffff). let f : Tagged h = tag-fits h p.tag v in (f.vlan, f.pcp))
 
 -- a frame is its headers, its payload and zeros
 pub laid-out : (h : Header) (n : Nonce) → (pad : List ℕ) × (rendered h n ≡ ethernet_header h ++ (body h n ++ pad))
@@ -110,8 +110,8 @@ unfolding ipv4_header tcp_header payload
 tcp-packet h n sum check pad r low k e =
     let rest : List ℕ = tcp_header h check ++ (payload n ++ pad) in
     packet-read (link h) (record { tp_src = h.tp_src; tp_dst = h.tp_dst; end = 40 }) h n 44 sum rest r low (omega arith) (omega arith)
-      (ap (λ (q : ℕ). transport_of q (ipv4_header h 44 sum ++ rest)) e ∙ tcp-read h sum check (payload n ++ pad) r)
-      (nonce-read n [] k)
+    (ap (λ (q : ℕ). transport_of q (ipv4_header h 44 sum ++ rest)) e ∙ tcp-read h sum check (payload n ++ pad) r)
+    (nonce-read n [] k)
 
 udp-packet : (h : Header) (n : Nonce) (sum check : ℕ) (pad : List ℕ) → InRange h → h.nw_tos % 4 ≡ 0 → IsNonce n → h.nw_proto ≡ 17
     → packet_of (link h) (ipv4_header h 32 sum ++ (udp_header h check ++ (payload n ++ pad))) ≡ Some (portless h, Some n)
@@ -119,8 +119,8 @@ unfolding ipv4_header udp_header payload
 udp-packet h n sum check pad r low k e =
     let rest : List ℕ = udp_header h check ++ (payload n ++ pad) in
     packet-read (link h) (record { tp_src = h.tp_src; tp_dst = h.tp_dst; end = 28 }) h n 32 sum rest r low (omega arith) (omega arith)
-      (ap (λ (q : ℕ). transport_of q (ipv4_header h 32 sum ++ rest)) e ∙ udp-read h sum check (payload n ++ pad) r)
-      (nonce-read n [] k)
+    (ap (λ (q : ℕ). transport_of q (ipv4_header h 32 sum ++ rest)) e ∙ udp-read h sum check (payload n ++ pad) r)
+    (nonce-read n [] k)
 
 icmp-packet : (h : Header) (n : Nonce) (sum check : ℕ) (pad : List ℕ) → InRange h → h.nw_tos % 4 ≡ 0 → IsNonce n → h.nw_proto ≡ 1
     → h.tp_src < 256 → h.tp_dst < 256
@@ -129,8 +129,8 @@ unfolding ipv4_header icmp_header payload
 icmp-packet h n sum check pad r low k e ps pd =
     let rest : List ℕ = icmp_header h check ++ (payload n ++ pad) in
     packet-read (link h) (record { tp_src = h.tp_src; tp_dst = h.tp_dst; end = 28 }) h n 32 sum rest r low (omega arith) (omega arith)
-      (ap (λ (q : ℕ). transport_of q (ipv4_header h 32 sum ++ rest)) e ∙ icmp-read h sum check (payload n ++ pad) ps pd)
-      (nonce-read n [] k)
+    (ap (λ (q : ℕ). transport_of q (ipv4_header h 32 sum ++ rest)) e ∙ icmp-read h sum check (payload n ++ pad) ps pd)
+    (nonce-read n [] k)
 
 other-transport : (protocol : ℕ) (packet : List ℕ) → (protocol == 6) ≡ false → (protocol == 17) ≡ false → (protocol == 1) ≡ false
     → transport_of protocol packet ≡ Some (record { tp_src = 0; tp_dst = 0; end = 20 })
@@ -143,8 +143,8 @@ other-packet : (h : Header) (n : Nonce) (sum : ℕ) (pad : List ℕ) → InRange
 unfolding ipv4_header payload
 other-packet h n sum pad r low k a b c es ed =
     packet-read (link h) (record { tp_src = 0; tp_dst = 0; end = 20 }) h n 24 sum (payload n ++ pad) r low (omega arith) (omega arith)
-      (other-transport h.nw_proto (ipv4_header h 24 sum ++ (payload n ++ pad)) a b c)
-      (nonce-read n [] k)
+    (other-transport h.nw_proto (ipv4_header h 24 sum ++ (payload n ++ pad)) a b c)
+    (nonce-read n [] k)
     ∙ ap (λ (x : ℕ). Some (record (portless h) { tp_src = x; tp_dst = 0 }, Some n)) (sym es)
     ∙ ap (λ (x : ℕ). Some (record (portless h) { tp_dst = x }, Some n)) (sym ed)
 
@@ -211,25 +211,25 @@ unfolding has_form
 class-back Tcp h n p k =
     let f = two-form h 6 p.form in
     ip-back Tcp h n (ipv4_header h 44 (checksum (ipv4_header h 44 0))) (tcp_header h (tcp_sum h n)) (Some (portless h, Some n)) p f.type
-      (tcp-headers h n f.proto)
-      (λ (pad : List ℕ). tcp-packet h n (checksum (ipv4_header h 44 0)) (tcp_sum h n) pad p.range (tos-low Tcp h p) k f.proto)
+    (tcp-headers h n f.proto)
+    (λ (pad : List ℕ). tcp-packet h n (checksum (ipv4_header h 44 0)) (tcp_sum h n) pad p.range (tos-low Tcp h p) k f.proto)
 class-back Udp h n p k =
     let f = two-form h 17 p.form in
     ip-back Udp h n (ipv4_header h 32 (checksum (ipv4_header h 32 0))) (udp_header h (udp_sum h n)) (Some (portless h, Some n)) p f.type
-      (udp-headers h n f.proto)
-      (λ (pad : List ℕ). udp-packet h n (checksum (ipv4_header h 32 0)) (udp_sum h n) pad p.range (tos-low Udp h p) k f.proto)
+    (udp-headers h n f.proto)
+    (λ (pad : List ℕ). udp-packet h n (checksum (ipv4_header h 32 0)) (udp_sum h n) pad p.range (tos-low Udp h p) k f.proto)
 class-back Icmp h n p k =
     let f = ip-form h 1 _ p.form in
     let ports = second (h.nw_proto == 1) _ (second (h.dl_type == 0x0800) _ p.form) in
     ip-back Icmp h n (ipv4_header h 32 (checksum (ipv4_header h 32 0))) (icmp_header h (icmp_sum h n)) (Some (portless h, Some n)) p f.type
-      (icmp-headers h n f.proto)
-      (λ (pad : List ℕ). icmp-packet h n (checksum (ipv4_header h 32 0)) (icmp_sum h n) pad p.range (tos-low Icmp h p) k f.proto
-        (ltb-true _ _ (first _ _ ports)) (ltb-true _ _ (second (nat_lt h.tp_src 256) _ ports)))
+    (icmp-headers h n f.proto)
+    (λ (pad : List ℕ). icmp-packet h n (checksum (ipv4_header h 32 0)) (icmp_sum h n) pad p.range (tos-low Icmp h p) k f.proto
+    (ltb-true _ _ (first _ _ ports)) (ltb-true _ _ (second (nat_lt h.tp_src 256) _ ports)))
 class-back OtherIpv4 h n p k =
     let f = other-form h p.form in
     ip-back OtherIpv4 h n (ipv4_header h 24 (checksum (ipv4_header h 24 0))) [] (Some (portless h, Some n)) p f.type
-      (other-headers h n f.tcp f.udp f.icmp)
-      (λ (pad : List ℕ). other-packet h n (checksum (ipv4_header h 24 0)) pad p.range (tos-low OtherIpv4 h p) k f.tcp f.udp f.icmp f.src f.dst)
+    (other-headers h n f.tcp f.udp f.icmp)
+    (λ (pad : List ℕ). other-packet h n (checksum (ipv4_header h 24 0)) pad p.range (tos-low OtherIpv4 h p) k f.tcp f.udp f.icmp f.src f.dst)
 class-back Plain h n p k =
     let f = plain-form h p.form in
     let l = laid-out h n in

@@ -31,10 +31,14 @@ addresses-bytes : (h : Header) → AreBytes (addresses h)
 addresses-bytes h = bytes-append (big_bytes 4 h.nw_src) (big_bytes 4 h.nw_dst) (number-bytes 4 h.nw_src) (number-bytes 4 h.nw_dst)
 
 ip-front-bytes : (h : Header) (size : ℕ) → InRange h → AreBytes (ip_front h size)
-ip-front-bytes h size r =
-    (omega arith, (r.nw_tos,
-      bytes-append (big_bytes 2 (20 + size)) (0 ∷ 0 ∷ 0 ∷ 0 ∷ 64 ∷ h.nw_proto ∷ []) (number-bytes 2 (20 + size))
-        (omega arith, (omega arith, (omega arith, (omega arith, (omega arith, (r.nw_proto, tt))))))))
+ip-front-bytes h size r = (
+  omega arith,
+  (
+    r.nw_tos,
+    bytes-append (big_bytes 2 (20 + size)) (0 ∷ 0 ∷ 0 ∷ 0 ∷ 64 ∷ h.nw_proto ∷ []) (number-bytes 2 (20 + size))
+        (omega arith, (omega arith, (omega arith, (omega arith, (omega arith, (r.nw_proto, tt)))))),
+  ),
+)
 
 header-sum : (h : Header) (size : ℕ) (rest : List ℕ) → InRange h
     → sum_of (take 20 (ipv4_header h size (checksum (ipv4_header h size 0)) ++ rest)) ≡ 65535
@@ -45,7 +49,7 @@ payload-bytes : (n : Nonce) → AreBytes (payload n)
 unfolding payload
 payload-bytes n =
     bytes-append (big_bytes 8 0x4d4f4e4f434c4531) (big_bytes 8 n.key ++ big_bytes 8 n.serial) (number-bytes 8 0x4d4f4e4f434c4531)
-      (bytes-append (big_bytes 8 n.key) (big_bytes 8 n.serial) (number-bytes 8 n.key) (number-bytes 8 n.serial))
+    (bytes-append (big_bytes 8 n.key) (big_bytes 8 n.serial) (number-bytes 8 n.key) (number-bytes 8 n.serial))
 
 -- what stands before the checksum of TCP
 abbrev tcp_front : Header → List ℕ
@@ -55,23 +59,23 @@ tcp-front-bytes : (h : Header) → AreBytes (tcp_front h)
 tcp-front-bytes h =
     let z : 0 < 256 = omega arith in
     bytes-append (big_bytes 2 h.tp_src) (big_bytes 2 h.tp_dst ++ (0 ∷ 0 ∷ 0 ∷ 0 ∷ 0 ∷ 0 ∷ 0 ∷ 0 ∷ 0x50 ∷ 0x10 ∷ 0 ∷ 0 ∷ [])) (number-bytes 2 h.tp_src)
-      (bytes-append (big_bytes 2 h.tp_dst) (0 ∷ 0 ∷ 0 ∷ 0 ∷ 0 ∷ 0 ∷ 0 ∷ 0 ∷ 0x50 ∷ 0x10 ∷ 0 ∷ 0 ∷ []) (number-bytes 2 h.tp_dst)
-        (z, (z, (z, (z, (z, (z, (z, (z, (omega arith, (omega arith, (z, (z, tt)))))))))))))
+    (bytes-append (big_bytes 2 h.tp_dst) (0 ∷ 0 ∷ 0 ∷ 0 ∷ 0 ∷ 0 ∷ 0 ∷ 0 ∷ 0x50 ∷ 0x10 ∷ 0 ∷ 0 ∷ []) (number-bytes 2 h.tp_dst)
+    (z, (z, (z, (z, (z, (z, (z, (z, (omega arith, (omega arith, (z, (z, tt)))))))))))))
 
 pseudo-bytes : (h : Header) (size : ℕ) → InRange h → AreBytes (pseudo_header h size)
 unfolding pseudo_header
 pseudo-bytes h size r =
     bytes-append (big_bytes 4 h.nw_src) (big_bytes 4 h.nw_dst ++ (0 ∷ h.nw_proto ∷ big_bytes 2 size)) (number-bytes 4 h.nw_src)
-      (bytes-append (big_bytes 4 h.nw_dst) (0 ∷ h.nw_proto ∷ big_bytes 2 size) (number-bytes 4 h.nw_dst)
-        (omega arith, (r.nw_proto, number-bytes 2 size)))
+    (bytes-append (big_bytes 4 h.nw_dst) (0 ∷ h.nw_proto ∷ big_bytes 2 size) (number-bytes 4 h.nw_dst)
+    (omega arith, (r.nw_proto, number-bytes 2 size)))
 
 tcp-filled : (h : Header) (n : Nonce) → InRange h → sum_of (pseudo_header h 44 ++ (tcp_header h (tcp_sum h n) ++ payload n)) ≡ 65535
 unfolding pseudo_header tcp_header
 tcp-filled h n r =
     let z : 0 < 256 = omega arith in
     checked (pseudo_header h 44 ++ tcp_front h) (0 ∷ 0 ∷ payload n) refl
-      (bytes-append (pseudo_header h 44) (tcp_front h) (pseudo-bytes h 44 r) (tcp-front-bytes h))
-      (z, (z, payload-bytes n))
+    (bytes-append (pseudo_header h 44) (tcp_front h) (pseudo-bytes h 44 r) (tcp-front-bytes h))
+    (z, (z, payload-bytes n))
 
 -- what stands before the checksum of UDP
 abbrev udp_front : Header → List ℕ
@@ -80,22 +84,22 @@ udp_front h = big_bytes 2 h.tp_src ++ (big_bytes 2 h.tp_dst ++ (0 ∷ 32 ∷ [])
 udp-front-bytes : (h : Header) → AreBytes (udp_front h)
 udp-front-bytes h =
     bytes-append (big_bytes 2 h.tp_src) (big_bytes 2 h.tp_dst ++ (0 ∷ 32 ∷ [])) (number-bytes 2 h.tp_src)
-      (bytes-append (big_bytes 2 h.tp_dst) (0 ∷ 32 ∷ []) (number-bytes 2 h.tp_dst) (omega arith, (omega arith, tt)))
+    (bytes-append (big_bytes 2 h.tp_dst) (0 ∷ 32 ∷ []) (number-bytes 2 h.tp_dst) (omega arith, (omega arith, tt)))
 
 udp-filled : (h : Header) (n : Nonce) → InRange h → sum_of (pseudo_header h 32 ++ (udp_header h (udp_sum h n) ++ payload n)) ≡ 65535
 unfolding pseudo_header udp_header
 udp-filled h n r =
     checked-udp (pseudo_header h 32 ++ udp_front h) (payload n) refl
-      (bytes-append (pseudo_header h 32) (udp_front h) (pseudo-bytes h 32 r) (udp-front-bytes h))
-      (payload-bytes n)
+    (bytes-append (pseudo_header h 32) (udp_front h) (pseudo-bytes h 32 r) (udp-front-bytes h))
+    (payload-bytes n)
 
 icmp-filled : (h : Header) (n : Nonce) → sum_of (icmp_header h (icmp_sum h n) ++ payload n) ≡ 65535
 unfolding icmp_header
 icmp-filled h n =
     let z : 0 < 256 = omega arith in
     checked (big_bytes 1 h.tp_src ++ big_bytes 1 h.tp_dst) (0 ∷ 0 ∷ 0 ∷ 0 ∷ payload n) refl
-      (bytes-append (big_bytes 1 h.tp_src) (big_bytes 1 h.tp_dst) (number-bytes 1 h.tp_src) (number-bytes 1 h.tp_dst))
-      (z, (z, (z, (z, payload-bytes n))))
+    (bytes-append (big_bytes 1 h.tp_src) (big_bytes 1 h.tp_dst) (number-bytes 1 h.tp_src) (number-bytes 1 h.tp_dst))
+    (z, (z, (z, (z, payload-bytes n))))
 
 -- what a receiver takes out of a packet with a total length of `total`
 abbrev taken : List ℕ → ℕ → List ℕ
@@ -200,8 +204,8 @@ packet-laid c h n ip next p e heads =
     let f = front-read c h (body h n ++ l.0) p (ap is_type e) in (
       l.0,
       ap (drop (ethernet_size h)) l.1
-      ∙ drop_at (ethernet_header h) (body h n ++ l.0) (ethernet_size h) f.1
-      ∙ packet-body h n ip next l.0 e heads,
+          ∙ drop_at (ethernet_header h) (body h n ++ l.0) (ethernet_size h) f.1
+          ∙ packet-body h n ip next l.0 e heads,
     )
 
 along : (packet laid : List ℕ) → packet ≡ laid → HasRightSums laid → HasRightSums packet

@@ -15,7 +15,7 @@ ethernet_header h =
     big_bytes 6 h.dl_dst
     ++ (big_bytes 6 h.dl_src
     ++ (if h.dl_vlan == 0xffff then big_bytes 2 h.dl_type
-        else big_bytes 2 0x8100 ++ (big_bytes 2 (h.dl_vlan_pcp * 8192 + h.dl_vlan) ++ big_bytes 2 h.dl_type)))
+    else big_bytes 2 0x8100 ++ (big_bytes 2 (h.dl_vlan_pcp * 8192 + h.dl_vlan) ++ big_bytes 2 h.dl_type)))
 
 -- its count of bytes
 abbrev pub ethernet_size : Header → ℕ

@@ -26,8 +26,12 @@ abbrev pub typed : List ℕ → ℕ → ℕ → ℕ → Option Ethernet
 typed bytes vlan pcp end =
     if nat_le end (length bytes) && is_type (pair_at (end - 2) bytes)
     then Some (record {
-      dl_src = big_number 6 (drop 6 bytes); dl_dst = big_number 6 (drop 0 bytes);
-      dl_vlan = vlan; dl_vlan_pcp = pcp; dl_type = pair_at (end - 2) bytes; size = end;
+      dl_src = big_number 6 (drop 6 bytes);
+      dl_dst = big_number 6 (drop 0 bytes);
+      dl_vlan = vlan;
+      dl_vlan_pcp = pcp;
+      dl_type = pair_at (end - 2) bytes;
+      size = end;
     })
     else None
 
@@ -83,17 +87,35 @@ transport_of protocol packet =
 -- the header of a frame of another type than IPv4
 unfoldable pub plain_header : Ethernet → Header
 plain_header e = record {
-  in_port = 0; dl_src = e.dl_src; dl_dst = e.dl_dst; dl_vlan = e.dl_vlan; dl_vlan_pcp = e.dl_vlan_pcp; dl_type = e.dl_type;
-  nw_tos = 0; nw_proto = 0; nw_src = 0; nw_dst = 0; tp_src = 0; tp_dst = 0;
+  in_port = 0;
+  dl_src = e.dl_src;
+  dl_dst = e.dl_dst;
+  dl_vlan = e.dl_vlan;
+  dl_vlan_pcp = e.dl_vlan_pcp;
+  dl_type = e.dl_type;
+  nw_tos = 0;
+  nw_proto = 0;
+  nw_src = 0;
+  nw_dst = 0;
+  tp_src = 0;
+  tp_dst = 0;
 }
 
 -- the header of a frame of IPv4
 unfoldable pub ipv4_fields : Ethernet → Transport → List ℕ → Header
 ipv4_fields e t packet = record {
-  in_port = 0; dl_src = e.dl_src; dl_dst = e.dl_dst; dl_vlan = e.dl_vlan; dl_vlan_pcp = e.dl_vlan_pcp; dl_type = e.dl_type;
-  nw_tos = slice_index packet 1 / 4 * 4; nw_proto = slice_index packet 9;
-  nw_src = big_number 4 (drop 12 packet); nw_dst = big_number 4 (drop 16 packet);
-  tp_src = t.tp_src; tp_dst = t.tp_dst;
+  in_port = 0;
+  dl_src = e.dl_src;
+  dl_dst = e.dl_dst;
+  dl_vlan = e.dl_vlan;
+  dl_vlan_pcp = e.dl_vlan_pcp;
+  dl_type = e.dl_type;
+  nw_tos = slice_index packet 1 / 4 * 4;
+  nw_proto = slice_index packet 9;
+  nw_src = big_number 4 (drop 12 packet);
+  nw_dst = big_number 4 (drop 16 packet);
+  tp_src = t.tp_src;
+  tp_dst = t.tp_dst;
 }
 
 abbrev pub Read : Type 0

@@ -6,14 +6,16 @@
 //! checksum: a switch that changes a header may leave them wrong.
 #![tactic(auto)]
 
+#[cfg(test)]
+mod cases;
 mod ethernet;
 mod laws;
 mod nonce;
 mod numbers;
 mod reading;
-mod writing;
 mod sums;
 mod transport;
+mod writing;
 
 pub use laws::{checksums_are_right, written_is_read};
 pub use mon_header::{OutOfMemory, in_class};
