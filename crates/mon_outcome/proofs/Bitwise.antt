@@ -7,7 +7,7 @@ use Rattle.mon_header.specs.Places.{bits_of, bit_at, header_bits}
 use Rattle.mon_header.specs.Places as plain
 use Rattle.mon_outcome.specs.declared.rewrite.Rewrite.{Rewrite}
 use Rattle.mon_outcome.specs.declared.rewrite.Bit.{Bit}
-use Rattle.mon_outcome.specs.declared.rewrite.Bit.TheVariants.{Fixed, Copied}
+use Rattle.mon_outcome.specs.declared.rewrite.Bit.TheVariants.{Copied}
 use Rattle.mon_outcome.specs.Filling.{filled_field, filled, laid, field_bit, field_bits, joined, rewrite_bits, bit_of, filled_bit}
 
 -- the bits of a rewrite laid over those of a header

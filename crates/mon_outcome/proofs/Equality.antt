@@ -1,5 +1,5 @@
 -- Headers that agree in each field are equal, and so are emissions.
-use Rattle.std.proofs.Common.{◌≡◌, ℕ, Bool, true, ◌↔◌, refl, sym, ap, ◌∙◌}
+use Rattle.std.proofs.Common.{◌≡◌, ℕ, true, ◌↔◌, refl, sym, ap, ◌∙◌}
 use Rattle.std.specs.Prelude.{◌==◌}
 use Rattle.std.proofs.lemmas.Bool.{eqb-true, eq-eqb}
 use Rattle.mon_header.specs.declared.header.Header.{Header}

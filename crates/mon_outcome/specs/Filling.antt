@@ -1,5 +1,5 @@
 -- Rewrites: the fields that actions fix, whatever the header, and those that they copy.
-use Rattle.std.specs.Prelude.{ℕ, zero, suc, Bool, false, List, [], ◌∷◌, ◌++◌, get_or, Option, Some, None}
+use Rattle.std.specs.Prelude.{ℕ, zero, suc, Bool, List, [], ◌∷◌, ◌++◌, get_or, Option, Some, None}
 use Rattle.mon_header.specs.declared.header.Header.{Header}
 use Rattle.mon_header.specs.Wild.{bit}
 use Rattle.mon_outcome.specs.declared.rewrite.Rewrite.{Rewrite}

@@ -1,6 +1,6 @@
 -- What fits: the fields of headers in a class, and the parts of packets of IPv4.
-use Rattle.std.proofs.Common.{◌≡◌, ◌≢◌, ℕ, ◌+◌, ◌*◌, ◌%◌, ◌^◌, ◌<◌, ◌≤◌, Bool, true, false, List, length, arith}
-use Rattle.std.specs.Prelude.{◌==◌, nat_le, nat_lt, ◌&&◌, ◌||◌, slice_index}
+use Rattle.std.proofs.Common.{◌≡◌, ◌≢◌, ℕ, ◌%◌, ◌<◌, ◌≤◌, true, List, length, arith}
+use Rattle.std.specs.Prelude.{◌==◌, nat_le, slice_index}
 use Rattle.std.proofs.lemmas.Bool.{leb-true, ltb-true}
 use Rattle.std.proofs.lemmas.Bool.Decides.{nat_tests}
 use Rattle.mon_header.specs.declared.class.Class.{Class}
@@ -9,7 +9,7 @@ use Rattle.mon_header.specs.Matching.{InRange}
 use Rattle.mon_header.specs.Classes.{fits, has_tag_fields, has_form, is_in_class, in_class}
 use Rattle.mon_header.proofs.Twelve.{first, second}
 use Rattle.mon_header.proofs.Classing.{some-class, class-range}
-use Rattle.mon_packet.specs.Reading.{pair_at, total_of, is_ipv4}
+use Rattle.mon_packet.specs.Reading.{total_of, is_ipv4}
 
 -- what a class says of a header, part by part
 pub record IsOf (c : Class) (h : Header) : Type 0 where

@@ -1,8 +1,7 @@
 -- Packets of IPv4 that are written are read again.
-use Rattle.std.proofs.Common.{◌≡◌, ◌≢◌, ℕ, ◌+◌, ◌*◌, ◌-◌, ◌/◌, ◌%◌, ◌^◌, ◌<◌, ◌≤◌, Bool, true, false, List, [], ◌∷◌, ◌++◌, length, drop, take, Option, Some, None, refl, sym, ap, ◌∙◌, arith}
-use Rattle.std.specs.Prelude.{◌==◌, ◌&&◌, nat_le, slice_index, if◌then◌else◌}
+use Rattle.std.proofs.Common.{◌≡◌, ℕ, ◌+◌, ◌*◌, ◌-◌, ◌/◌, ◌%◌, ◌^◌, ◌<◌, ◌≤◌, true, List, ◌++◌, length, drop, take, Option, Some, None, refl, ap, ◌∙◌, arith}
+use Rattle.std.specs.Prelude.{◌==◌, ◌&&◌, nat_le, slice_index}
 use Rattle.std.proofs.lemmas.Bool.{le-leb, eq-eqb}
-use Rattle.std.proofs.lemmas.List.{append-nil}
 use Rattle.byteorder.specs.Endian.{big_number, big_bytes}
 use Rattle.byteorder.specs.Numbers.{big_number-reads_back}
 use Rattle.mon_header.specs.declared.header.Header.{Header}
@@ -13,7 +12,7 @@ use Rattle.mon_packet.specs.declared.ethernet.Ethernet.{Ethernet}
 use Rattle.mon_packet.specs.declared.transport.Transport.{Transport}
 use Rattle.mon_packet.specs.Frames.{payload, ipv4_header, tcp_header, udp_header, icmp_header}
 use Rattle.mon_packet.specs.Reading.{pair_at, total_of, nonce_of, is_ipv4, tcp_of, udp_of, icmp_of, transport_of, ipv4_fields, with_transport, packet_of}
-use Rattle.mon_packet.proofs.Choosing.{if-true, if-false}
+use Rattle.mon_packet.proofs.Choosing.{if-true}
 
 pub record IsNonce (n : Nonce) : Type 0 where
   pub key : n.key < 2 ^ 64

@@ -1,26 +1,24 @@
 -- A frame that is rendered is read again.
-use Rattle.std.proofs.Common.{◌≡◌, ◌≢◌, ℕ, ◌+◌, ◌*◌, ◌-◌, ◌/◌, ◌%◌, ◌^◌, ◌<◌, ◌≤◌, Bool, true, false, List, [], ◌∷◌, ◌++◌, length, drop, take, Option, Some, None, refl, sym, ap, subst, ◌∙◌, append_assoc, arith}
-use Rattle.std.specs.Prelude.{◌==◌, ◌&&◌, nat_lt, if◌then◌else◌}
-use Rattle.std.proofs.lemmas.Bool.{le-leb, eq-eqb, eqb-true, ltb-true}
+use Rattle.std.proofs.Common.{◌≡◌, ◌≢◌, ℕ, ◌%◌, ◌<◌, Bool, true, false, List, [], ◌++◌, length, Option, Some, sym, ap, ◌∙◌, append_assoc, arith}
+use Rattle.std.specs.Prelude.{◌==◌, ◌&&◌, nat_lt}
+use Rattle.std.proofs.lemmas.Bool.{eq-eqb, eqb-true, ltb-true}
 use Rattle.std.proofs.lemmas.Bool.Decides.{nat_tests}
-use Rattle.std.proofs.lemmas.List.{append-nil, drop_at}
+use Rattle.std.proofs.lemmas.List.{drop_at}
 use Rattle.mon_header.specs.declared.class.Class.{Class}
 use Rattle.mon_header.specs.declared.class.Class.TheVariants.{Tcp, Udp, Icmp, OtherIpv4, Plain}
 use Rattle.mon_header.specs.declared.header.Header.{Header}
 use Rattle.mon_header.specs.Matching.{InRange}
-use Rattle.mon_header.specs.Classes.{has_form, has_no_network_fields, is_plain_type, in_class}
+use Rattle.mon_header.specs.Classes.{has_form, has_no_network_fields, is_plain_type}
 use Rattle.mon_header.proofs.Twelve.{first, second}
 use Rattle.mon_packet.specs.declared.nonce.Nonce.{Nonce}
-use Rattle.mon_packet.specs.declared.ethernet.Ethernet.{Ethernet}
-use Rattle.mon_packet.specs.declared.transport.Transport.{Transport}
 use Rattle.mon_packet.specs.Sums.{checksum}
-use Rattle.mon_packet.specs.Frames.{payload, ethernet_header, ethernet_size, ipv4_header, tcp_header, udp_header, icmp_header, tcp_sum, udp_sum, icmp_sum, transport_header, transport_size, network_headers, body, padding, rendered}
+use Rattle.mon_packet.specs.Frames.{payload, ethernet_header, ethernet_size, ipv4_header, tcp_header, udp_header, icmp_header, tcp_sum, udp_sum, icmp_sum, transport_header, network_headers, body, padding, rendered}
 use Rattle.mon_packet.specs.Reading.{is_type, nonce_of, transport_of, plain_header, ethernet_of, packet_of, with_ethernet, Read, parsed}
 use Rattle.mon_packet.specs.Laws.{ReadsBack}
 use Rattle.mon_packet.proofs.Choosing.{if-true, if-false}
 use Rattle.mon_packet.proofs.Fitting.{IsOf, class-parts, Tagged, tag-fits, untagged-pcp}
 use Rattle.mon_packet.proofs.Links.{link, link-read}
-use Rattle.mon_packet.proofs.Packets.{IsNonce, nonce-read, shown, packet-read, tcp-read, udp-read, icmp-read}
+use Rattle.mon_packet.proofs.Packets.{IsNonce, nonce-read, packet-read, tcp-read, udp-read, icmp-read}
 
 -- the header without its port
 abbrev portless : Header → Header

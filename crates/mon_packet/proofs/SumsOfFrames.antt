@@ -1,24 +1,24 @@
 -- The checksums of a rendered frame are right.
-use Rattle.std.proofs.Common.{◌≡◌, ◌≢◌, ℕ, ◌+◌, ◌*◌, ◌-◌, ◌%◌, ◌^◌, ◌<◌, Bool, true, false, List, [], ◌∷◌, ◌++◌, length, drop, take, refl, sym, ap, subst, ◌∙◌, arith}
+use Rattle.std.proofs.Common.{◌≡◌, ◌≢◌, ℕ, ◌+◌, ◌-◌, ◌<◌, true, false, List, [], ◌∷◌, ◌++◌, drop, take, refl, sym, ap, subst, ◌∙◌, arith}
 use Rattle.std.specs.Prelude.{◌==◌, slice_index}
 use Rattle.std.proofs.lemmas.Bool.{eq-eqb}
 use Rattle.std.proofs.lemmas.List.{drop_at}
-use Rattle.byteorder.specs.Endian.{big_number, big_bytes}
+use Rattle.byteorder.specs.Endian.{big_bytes}
 use Rattle.byteorder.specs.Numbers.{big_number-reads_back}
 use Rattle.mon_header.specs.declared.class.Class.{Class}
 use Rattle.mon_header.specs.declared.class.Class.TheVariants.{Tcp, Udp, Icmp, OtherIpv4, Plain}
 use Rattle.mon_header.specs.declared.header.Header.{Header}
 use Rattle.mon_header.specs.Matching.{InRange}
-use Rattle.mon_header.specs.Classes.{has_form, in_class}
+use Rattle.mon_header.specs.Classes.{has_form}
 use Rattle.mon_packet.specs.declared.nonce.Nonce.{Nonce}
 use Rattle.mon_packet.specs.Sums.{sum_of, checksum}
-use Rattle.mon_packet.specs.Frames.{payload, ethernet_header, ethernet_size, ipv4_header, pseudo_header, tcp_header, udp_header, icmp_header, tcp_sum, udp_sum, icmp_sum, network_headers, body, rendered}
+use Rattle.mon_packet.specs.Frames.{payload, ethernet_header, ethernet_size, ipv4_header, pseudo_header, tcp_header, udp_header, icmp_header, tcp_sum, udp_sum, icmp_sum, network_headers, body}
 use Rattle.mon_packet.specs.Reading.{pair_at, total_of, is_type}
-use Rattle.mon_packet.specs.Laws.{segment_of, pseudo_of, HasRightSums, packet_in, IsChecked}
+use Rattle.mon_packet.specs.Laws.{HasRightSums, packet_in, IsChecked}
 use Rattle.mon_packet.proofs.Fitting.{IsOf, class-parts}
 use Rattle.mon_packet.proofs.Packets.{proto-read, total-read}
 use Rattle.mon_packet.proofs.Checking.{AreBytes, bytes-append, number-bytes, checked, checked-udp, not-zero, zero-small}
-use Rattle.mon_packet.proofs.RoundTrip.{front-read, laid-out, packet-body, tcp-headers, udp-headers, icmp-headers, other-headers, OtherForm, other-form, IpForm, ip-form, two-form, PlainForm, plain-form}
+use Rattle.mon_packet.proofs.RoundTrip.{front-read, laid-out, packet-body, tcp-headers, udp-headers, icmp-headers, other-headers, OtherForm, other-form, ip-form, two-form, plain-form}
 
 -- the parts of a packet's header before and behind its checksum
 abbrev ip_front : Header → ℕ → List ℕ

@@ -1,5 +1,5 @@
 -- How a frame is read (IEEE 802.1Q, RFC 791, 9293, 768, 792).
-use Rattle.std.specs.Prelude.{ℕ, ◌+◌, ◌*◌, ◌-◌, ◌/◌, ◌%◌, Bool, not, ◌==◌, nat_le, ◌&&◌, if◌then◌else◌, List, drop, take, length, slice_index, Option, Some, None}
+use Rattle.std.specs.Prelude.{ℕ, ◌*◌, ◌-◌, ◌/◌, ◌%◌, Bool, not, ◌==◌, nat_le, ◌&&◌, if◌then◌else◌, List, drop, take, length, slice_index, Option, Some, None}
 use Rattle.byteorder.specs.Endian.{big_number}
 use Rattle.mon_header.specs.declared.header.Header.{Header}
 use Rattle.mon_packet.specs.declared.nonce.Nonce.{Nonce}

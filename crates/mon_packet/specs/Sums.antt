@@ -1,5 +1,5 @@
 -- The Internet checksum (RFC 791, 768, 792, 9293): the one's complement of the one's complement sum of 16-bit words.
-use Rattle.std.specs.Prelude.{ℕ, ◌+◌, ◌*◌, ◌-◌, Bool, nat_lt, ◌==◌, if◌then◌else◌, List, [], ◌∷◌}
+use Rattle.std.specs.Prelude.{ℕ, ◌+◌, ◌*◌, ◌-◌, nat_lt, ◌==◌, if◌then◌else◌, List, [], ◌∷◌}
 
 -- the sum of two words; a carry out of the top is added at the bottom
 abbrev pub plus : ℕ → ℕ → ℕ

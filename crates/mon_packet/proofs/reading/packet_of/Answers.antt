@@ -1,5 +1,4 @@
-use Rattle.std.proofs.Common.{◌≡◌, ◌≤◌, true, length, sym, ◌∙◌, arith}
-use Rattle.mon_packet.specs.Reading.{total_of}
+use Rattle.std.proofs.Common.{sym, ◌∙◌, arith}
 use Rattle.mon_packet.proofs.Fitting.{Whole, ipv4-whole}
 use Rattle.mon_packet.proofs.reading.packet_of.Goals as goal
 

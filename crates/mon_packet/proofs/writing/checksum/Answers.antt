@@ -1,4 +1,4 @@
-use Rattle.std.proofs.Common.{ℕ, ◌-◌, ap, sym, ◌∙◌}
+use Rattle.std.proofs.Common.{ℕ, ◌-◌, ap, ◌∙◌}
 use Rattle.mon_packet.specs.Sums.{sum_from}
 use Rattle.mon_packet.proofs.Summing.{checksum-append}
 use Rattle.mon_packet.proofs.writing.checksum.Goals as goal

@@ -1,4 +1,4 @@
-use Rattle.std.proofs.Common.{arith, rules}
+use Rattle.std.proofs.Common.{rules}
 use Rattle.mon_packet.proofs.Fitting.{class-parts, tag-fits}
 use Rattle.mon_packet.proofs.writing.put_ethernet.Goals as goal
 
