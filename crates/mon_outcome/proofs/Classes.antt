@@ -1,8 +1,9 @@
 -- What a class says of its headers, and that actions keep it.
-use Rattle.std.proofs.Common.{◌≡◌, ℕ, ◌*◌, ◌/◌, ◌%◌, ◌^◌, ◌<◌, Bool, true, false, List, [], ◌∷◌, Option, Some, None, refl, arith}
+use Rattle.std.proofs.Common.{◌≡◌, ℕ, ◌*◌, ◌/◌, ◌%◌, ◌^◌, ◌<◌, ◌≤◌, Bool, true, false, List, [], ◌∷◌, length, drop, Option, Some, None, refl, sym, subst, ap, ◌∙◌, arith}
 use Rattle.std.specs.Prelude.{◌==◌, if◌then◌else◌}
 use Rattle.std.proofs.lemmas.Bool.{eq-eqb, lt-ltb}
 use Rattle.std.proofs.lemmas.Bool.Decides.{nat_tests}
+use Rattle.std.proofs.lemmas.List.{at_drop_all}
 use Rattle.mon_header.specs.declared.class.Class.{Class}
 use Rattle.mon_header.specs.declared.class.Class.TheVariants.{Tcp, Udp, Icmp, OtherIpv4, Plain}
 use Rattle.mon_header.specs.declared.header.Header.{Header}
@@ -10,9 +11,9 @@ use Rattle.mon_header.specs.declared.action.Action.{Action}
 use Rattle.mon_header.specs.declared.action.Action.TheVariants.{Output, SetVlanVid, SetVlanPcp, StripVlan, SetDlSrc, SetDlDst, SetNwSrc, SetNwDst, SetNwTos, SetTpSrc, SetTpDst, Enqueue, Unknown}
 use Rattle.mon_header.specs.Actions.{FitsAction, AllFit}
 use Rattle.mon_header.specs.Matching.{InRange}
-use Rattle.mon_header.specs.Classes.{fits, has_tag_fields, has_no_network_fields, is_plain_type, has_form, is_in_class}
+use Rattle.mon_header.specs.Classes.{fits, has_tag_fields, has_no_network_fields, is_plain_type, has_form, is_in_class, in_class}
 use Rattle.mon_header.proofs.Twelve.{first, second, both, join}
-use Rattle.mon_header.proofs.Classing.{class-range}
+use Rattle.mon_header.proofs.Classing.{some-class, class-range}
 use Rattle.mon_outcome.specs.Acting.{is_untagged, is_ipv4, has_ports, act, apply}
 use Rattle.mon_outcome.specs.declared.door.Door.{Door}
 use Rattle.mon_outcome.specs.declared.door.Door.TheVariants.{Port, Controller}
@@ -246,3 +247,12 @@ emissions-show [] c h f e = tt
 emissions-show (action ∷ actions) c h f e =
     one-shows (door_of action h.in_port) c h (emissions actions (act action h)) e
     (emissions-show actions c (act action h) f.1 (acted-class c action h f.0 e))
+
+-- once no action is left, the header is in a class if it was
+pub applied-some : (items actions : List Action) (i : ℕ) (h k : Header) → AllFit actions → items ≡ actions → length items ≤ i
+    → apply (drop i actions) k ≡ apply actions h → in_class h ≡ true → in_class k ≡ true
+applied-some items actions i h k f same long e inside =
+    let c = (some-class h).0 inside in
+    let all : length actions ≤ i = let P : List Action → Type 0 = λ xs. length xs ≤ i in subst P same long in
+    let last : k ≡ apply actions h = sym (at_drop_all (λ (rest : List Action). apply rest k) actions i all) ∙ e in
+    ap in_class last ∙ (some-class (apply actions h)).1 (c.0, applied-class actions c.0 h f c.1)

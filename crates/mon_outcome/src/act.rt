@@ -1,6 +1,7 @@
 //! What actions make of a header.
 
-ghost use Rattle.std.specs.Prelude.{◌≡◌};
+ghost use Rattle.std.specs.Prelude.{◌≡◌, IsTrue};
+ghost use Rattle.mon_header.specs.Classes.{in_class};
 ghost use Rattle.mon_outcome.specs.Acting.{is_untagged, is_ipv4, has_ports, act, apply};
 
 use mon_header::{Action, Actions, Header};
@@ -83,9 +84,10 @@ pub fn act(action: &Action, h: Header) -> Header
     }
 }
 
-/// The header after all actions, in list order.
+/// The header after all actions, in list order. That of a header in a class is in a class again. It takes no memory.
 pub fn apply(a: &Actions, h: &Header) -> Header
-    ensures { result ≡ apply a.now h.now }
+    ensures value { result ≡ apply a.now h.now }
+    ensures class { IsTrue (in_class h.now) → IsTrue (in_class result) }
 {
     let mut header = *h;
     for action in a.items() {

@@ -13,6 +13,8 @@ use std::alloc::Global;
 
 /// The bytes of the shortest frame, without its check sequence (IEEE 802.3).
 const SHORTEST: usize = 64;
+/// The bytes of the longest probe frame: a tagged one with TCP.
+const LONGEST: usize = 82;
 
 /// The header of IPv4.
 #[tactic(auto, unfolding(crate::specs::Frames::ipv4_header))]
@@ -223,7 +225,7 @@ pub fn render(alloc: Global, h: &Header, n: Nonce) -> Result<Vec<u8>, OutOfMemor
     requires { IsTrue (in_class h.now) }
     ensures { IfOk result (λ frame. frame.items ≡ rendered h.now n) }
 {
-    let mut frame = Vec::new(alloc);
+    let mut frame = Vec::with_capacity(alloc, LONGEST)?;
     put_ethernet(&mut frame, h)?;
     put_body(&mut frame, h, n)?;
     pad(&mut frame)?;
