@@ -1,4 +1,4 @@
--- The 264 bits of a header: its fields in the order of a packet, the most significant bit of each first.
+-- The 264 bits of a header: its fields one after the other, the most significant bit of each first.
 use Rattle.std.specs.Prelude.{ℕ, zero, suc, ◌+◌, ◌*◌, ◌^◌, Bool, false, List, [], ◌∷◌, ◌++◌, length, take, drop, get_or}
 use Rattle.mon_header.specs.declared.header.Header.{Header}
 use Rattle.mon_header.specs.Wild.{flag, bit}

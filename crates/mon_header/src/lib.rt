@@ -1,4 +1,11 @@
 //! Headers, matches and actions of OpenFlow 1.0.0, without their bytes.
+//!
+//! A `Match` is always in its normalised form, so that equal matches are equal values. `matches`, `covers`, `overlaps`
+//! and `effective` go field by field; `match_before` is the order in which tables keep their rules. `bit` and
+//! `from_bits` give a header as 264 bits and take it from them, and the classes say which headers a frame can have.
+//!
+//! The functions with a law's name do nothing: their clauses say, for all matches and headers, what these words mean.
+//! Only the copies and lists of actions take memory.
 #![tactic(auto)]
 
 mod action;
