@@ -13,31 +13,13 @@ use Rattle.mon_header.specs.Actions.{FitsAction, AllFit}
 use Rattle.mon_header.specs.Matching.{InRange}
 use Rattle.mon_header.specs.Classes.{fits, has_tag_fields, has_no_network_fields, is_plain_type, has_form, is_in_class, in_class}
 use Rattle.mon_header.proofs.Twelve.{first, second, both, join}
+use Rattle.mon_header.proofs.Parting.{IsOf, parts}
 use Rattle.mon_header.proofs.Classing.{some-class, class-range}
 use Rattle.mon_outcome.specs.Acting.{is_untagged, is_ipv4, has_ports, act, apply}
 use Rattle.mon_outcome.specs.declared.door.Door.{Door}
 use Rattle.mon_outcome.specs.declared.door.Door.TheVariants.{Port, Controller}
 use Rattle.mon_outcome.specs.Emitting.{door_of, Emitted, with_emission, emissions, AllShow}
 use Rattle.mon_outcome.specs.Shaping.{is_ipv4_class, has_class_ports}
-
--- what a class says of a header, part by part
-pub record IsOf (c : Class) (h : Header) : Type 0 where
-  pub range : InRange h
-  pub tag : has_tag_fields h ≡ true
-  pub tos : (h.nw_tos % 4 == 0) ≡ true
-  pub form : has_form c h ≡ true
-
-pub parts : (c : Class) (h : Header) → is_in_class c h ≡ true → IsOf c h
-unfolding is_in_class
-parts c h e =
-    let rest = second (fits h) _ e in
-    let last = second (has_tag_fields h) _ rest in
-    record {
-      range = class-range c h e;
-      tag = first (has_tag_fields h) _ rest;
-      tos = first (h.nw_tos % 4 == 0) _ last;
-      form = second (h.nw_tos % 4 == 0) _ last;
-    }
 
 range-fits : (h : Header) → InRange h → fits h ≡ true
 unfolding fits

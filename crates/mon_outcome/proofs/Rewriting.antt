@@ -15,7 +15,8 @@ use Rattle.mon_outcome.specs.Acting.{is_untagged, is_ipv4, has_ports, act}
 use Rattle.mon_outcome.specs.Emitting.{door_of, through, Emitted, with_emission, emissions}
 use Rattle.mon_outcome.specs.Filling.{filled_field, filled}
 use Rattle.mon_outcome.specs.Shaping.{copied, is_stripped, is_ipv4_class, has_class_ports, rewritten, with_shape, shapes_from, shapes_of, emitted_by, AreEmissions}
-use Rattle.mon_outcome.proofs.Classes.{parts, class-ipv4, class-ports}
+use Rattle.mon_header.proofs.Parting.{parts}
+use Rattle.mon_outcome.proofs.Classes.{class-ipv4, class-ports}
 
 -- no action sets these fields
 record Keeps (r : Rewrite) : Type 0 where

@@ -8,27 +8,9 @@ use Rattle.mon_header.specs.declared.header.Header.{Header}
 use Rattle.mon_header.specs.Matching.{InRange}
 use Rattle.mon_header.specs.Classes.{fits, has_tag_fields, has_form, is_in_class, in_class}
 use Rattle.mon_header.proofs.Twelve.{first, second}
+use Rattle.mon_header.proofs.Parting.{IsOf, parts}
 use Rattle.mon_header.proofs.Classing.{some-class, class-range}
 use Rattle.mon_packet.specs.Reading.{total_of, is_ipv4}
-
--- what a class says of a header, part by part
-pub record IsOf (c : Class) (h : Header) : Type 0 where
-  pub range : InRange h
-  pub tag : has_tag_fields h ≡ true
-  pub tos : (h.nw_tos % 4 == 0) ≡ true
-  pub form : has_form c h ≡ true
-
-pub parts : (c : Class) (h : Header) → is_in_class c h ≡ true → IsOf c h
-unfolding is_in_class
-parts c h e =
-    let rest = second (fits h) _ e in
-    let last = second (has_tag_fields h) _ rest in
-    record {
-      range = class-range c h e;
-      tag = first (has_tag_fields h) _ rest;
-      tos = first (h.nw_tos % 4 == 0) _ last;
-      form = second (h.nw_tos % 4 == 0) _ last;
-    }
 
 pub class-parts : (h : Header) → in_class h ≡ true → (c : Class) × IsOf c h
 class-parts h e = let s = (some-class h).0 e in (s.0, parts s.0 h s.1)

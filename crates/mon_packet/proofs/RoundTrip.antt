@@ -16,7 +16,8 @@ use Rattle.mon_packet.specs.Frames.{payload, ethernet_header, ethernet_size, ipv
 use Rattle.mon_packet.specs.Reading.{is_type, nonce_of, transport_of, plain_header, ethernet_of, packet_of, with_ethernet, Read, parsed}
 use Rattle.mon_packet.specs.Laws.{ReadsBack}
 use Rattle.mon_packet.proofs.Choosing.{if-true, if-false}
-use Rattle.mon_packet.proofs.Fitting.{IsOf, class-parts, Tagged, tag-fits, untagged-pcp}
+use Rattle.mon_header.proofs.Parting.{IsOf}
+use Rattle.mon_packet.proofs.Fitting.{class-parts, Tagged, tag-fits, untagged-pcp}
 use Rattle.mon_packet.proofs.Links.{link, link-read}
 use Rattle.mon_packet.proofs.Packets.{IsNonce, nonce-read, packet-read, tcp-read, udp-read, icmp-read}
 

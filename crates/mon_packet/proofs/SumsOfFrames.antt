@@ -15,7 +15,8 @@ use Rattle.mon_packet.specs.Sums.{sum_of, checksum}
 use Rattle.mon_packet.specs.Frames.{payload, ethernet_header, ethernet_size, ipv4_header, pseudo_header, tcp_header, udp_header, icmp_header, tcp_sum, udp_sum, icmp_sum, network_headers, body}
 use Rattle.mon_packet.specs.Reading.{pair_at, total_of, is_type}
 use Rattle.mon_packet.specs.Laws.{HasRightSums, packet_in, IsChecked}
-use Rattle.mon_packet.proofs.Fitting.{IsOf, class-parts}
+use Rattle.mon_header.proofs.Parting.{IsOf}
+use Rattle.mon_packet.proofs.Fitting.{class-parts}
 use Rattle.mon_packet.proofs.Packets.{proto-read, total-read}
 use Rattle.mon_packet.proofs.Checking.{AreBytes, bytes-append, number-bytes, checked, checked-udp, not-zero, zero-small}
 use Rattle.mon_packet.proofs.RoundTrip.{front-read, laid-out, packet-body, tcp-headers, udp-headers, icmp-headers, other-headers, OtherForm, other-form, ip-form, two-form, plain-form}
