@@ -10,3 +10,4 @@ pub mod Bits
 pub mod Spelling
 pub mod Placing
 pub mod Classing
+pub mod Parting

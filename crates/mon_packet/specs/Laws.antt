@@ -1,0 +1,38 @@
+-- What joins the frames that are rendered, the headers that are read, and the checksums of both.
+use Rattle.std.specs.Prelude.{◌≡◌, ◌≢◌, ℕ, ◌<◌, ◌^◌, ◌-◌, true, List, ◌∷◌, ◌++◌, drop, take, slice_index, Some}
+use Rattle.byteorder.specs.Endian.{big_bytes}
+use Rattle.mon_header.specs.declared.header.Header.{Header}
+use Rattle.mon_header.specs.Classes.{in_class}
+use Rattle.mon_packet.specs.declared.nonce.Nonce.{Nonce}
+use Rattle.mon_packet.specs.Sums.{sum_of}
+use Rattle.mon_packet.specs.Frames.{ethernet_size, rendered}
+use Rattle.mon_packet.specs.Reading.{pair_at, total_of, parsed}
+
+-- a frame shows the header of which it was rendered but for the port, and the nonce
+abbrev pub ReadsBack : Header → Nonce → Type 0
+ReadsBack h n =
+    in_class h ≡ true → n.key < 2 ^ 64 → n.serial < 2 ^ 64 → parsed (rendered h n) ≡ Some (record h { in_port = 0 }, Some n)
+
+-- what a packet of IPv4 carries, up to its total length
+abbrev pub segment_of : List ℕ → List ℕ
+segment_of packet = drop 20 (take (total_of packet) packet)
+
+-- what a receiver of TCP or UDP puts before the segment: the packet's addresses and protocol, and the segment's length
+abbrev pub pseudo_of : List ℕ → List ℕ
+pseudo_of packet = drop 12 (take 20 packet) ++ (0 ∷ slice_index packet 9 ∷ big_bytes 2 (total_of packet - 20))
+
+-- a receiver's sums over a packet of IPv4: with the right checksum all bits of a sum are set; a datagram has a checksum
+pub record HasRightSums (packet : List ℕ) : Type 0 where
+  pub header : sum_of (take 20 packet) ≡ 0xffff
+  pub tcp : slice_index packet 9 ≡ 6 → sum_of (pseudo_of packet ++ segment_of packet) ≡ 0xffff
+  pub udp : slice_index packet 9 ≡ 17 → sum_of (pseudo_of packet ++ segment_of packet) ≡ 0xffff
+  pub udp_has_one : slice_index packet 9 ≡ 17 → pair_at 26 packet ≢ 0
+  pub icmp : slice_index packet 9 ≡ 1 → sum_of (segment_of packet) ≡ 0xffff
+
+-- the packet of IPv4 in a rendered frame
+abbrev pub packet_in : Header → Nonce → List ℕ
+packet_in h n = drop (ethernet_size h) (rendered h n)
+
+-- a frame of IPv4 has right checksums
+abbrev pub IsChecked : Header → Nonce → Type 0
+IsChecked h n = in_class h ≡ true → h.dl_type ≡ 0x0800 → HasRightSums (packet_in h n)

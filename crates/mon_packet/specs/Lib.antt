@@ -1,0 +1,4 @@
+pub mod Sums
+pub mod Frames
+pub mod Reading
+pub mod Laws

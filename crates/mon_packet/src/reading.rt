@@ -1,0 +1,109 @@
+//! Frames that are read.
+
+ghost use Rattle.std.specs.Prelude.{◌≡◌, ◌≤◌, length, slice_index};
+ghost use Rattle.mon_packet.specs.Reading.{total_of, transport_of, with_transport, is_ipv4, plain_header, ipv4_fields, packet_of, parsed};
+
+use crate::ethernet::{Ethernet, ethernet_of};
+use crate::nonce::{Nonce, nonce_of};
+use crate::numbers::{u16_at, u32_at};
+use crate::transport::{Transport, transport_of};
+use mon_header::Header;
+
+/// Whether this is a packet of IPv4 without options, whole and in one fragment.
+#[tactic(auto, unfolding(crate::specs::Reading::is_ipv4))]
+fn is_ipv4(packet: &[u8]) -> bool
+    ensures { result ≡ is_ipv4 packet.now }
+{
+    if packet.len() < 20 {
+        return false;
+    }
+    let total = usize::from(u16_at(packet, 2));
+    packet[0] == 0x45 && total >= 20 && total <= packet.len() && u16_at(packet, 6) % 16384 == 0
+}
+
+/// The header of a frame of another type than IPv4.
+#[tactic(auto, unfolding(crate::specs::Reading::plain_header))]
+fn plain_header(e: Ethernet) -> Header
+    ensures { result ≡ plain_header e }
+{
+    Header {
+        in_port: 0,
+        dl_src: e.dl_src,
+        dl_dst: e.dl_dst,
+        dl_vlan: e.dl_vlan,
+        dl_vlan_pcp: e.dl_vlan_pcp,
+        dl_type: e.dl_type,
+        nw_tos: 0,
+        nw_proto: 0,
+        nw_src: 0,
+        nw_dst: 0,
+        tp_src: 0,
+        tp_dst: 0,
+    }
+}
+
+/// The header of a frame of IPv4.
+#[tactic(auto, unfolding(crate::specs::Reading::ipv4_fields))]
+fn ipv4_fields(e: Ethernet, t: Transport, packet: &[u8]) -> Header
+    requires { 20 ≤ length packet.now }
+    ensures { result ≡ ipv4_fields e t packet.now }
+{
+    Header {
+        in_port: 0,
+        dl_src: e.dl_src,
+        dl_dst: e.dl_dst,
+        dl_vlan: e.dl_vlan,
+        dl_vlan_pcp: e.dl_vlan_pcp,
+        dl_type: e.dl_type,
+        nw_tos: packet[1] / 4 * 4,
+        nw_proto: packet[9],
+        nw_src: u32_at(packet, 12),
+        nw_dst: u32_at(packet, 16),
+        tp_src: t.tp_src,
+        tp_dst: t.tp_dst,
+    }
+}
+
+/// A packet of IPv4 of this total length, in a frame with this header of Ethernet.
+fn whole_packet(e: Ethernet, packet: &[u8], total: usize) -> Option<(Header, Option<Nonce>)>
+    requires total { total ≡ total_of packet.now }
+    requires header { 20 ≤ total }
+    requires within { total ≤ length packet.now }
+    ensures { result ≡ with_transport e packet.now (transport_of (slice_index packet.now 9) packet.now) }
+{
+    match transport_of(packet[9], packet, total) {
+        Some(t) => Some((
+            ipv4_fields(e, t, packet),
+            nonce_of(&packet[..total][t.end..]),
+        )),
+        None => None,
+    }
+}
+
+/// A packet in a frame of IPv4 with this header of Ethernet.
+fn packet_of(e: Ethernet, packet: &[u8]) -> Option<(Header, Option<Nonce>)>
+    ensures { result ≡ packet_of e packet.now }
+{
+    if !is_ipv4(packet) {
+        return None;
+    }
+    whole_packet(e, packet, usize::from(u16_at(packet, 2)))
+}
+
+/// The header of a frame, with `in_port` 0, and the nonce of its payload where it has one. None where bytes are
+/// missing, or what stands there is no frame that a probe can come back as. It takes no memory.
+pub fn parse(bytes: &[u8]) -> Option<(Header, Option<Nonce>)>
+    ensures { result ≡ parsed bytes.now }
+{
+    match ethernet_of(bytes) {
+        Some(e) => {
+            let body = &bytes[e.size..];
+            if e.dl_type == 0x0800 {
+                packet_of(e, body)
+            } else {
+                Some((plain_header(e), nonce_of(body)))
+            }
+        }
+        None => None,
+    }
+}
