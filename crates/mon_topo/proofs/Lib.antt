@@ -1,0 +1,4 @@
+pub mod Following
+pub mod Choosing
+pub mod Judging
+pub mod Differing
