@@ -1,0 +1,4 @@
+pub mod Equality
+pub mod Classes
+pub mod Rewriting
+pub mod Bitwise

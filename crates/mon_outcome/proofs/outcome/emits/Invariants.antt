@@ -1,0 +1,7 @@
+use Rattle.std.proofs.Common.{◌≡◌, drop}
+use Rattle.mon_outcome.specs.Emitting.{emissions, is_among}
+use Rattle.mon_outcome.proofs.outcome.emits.Given as goal
+
+-- the emission is none of those so far
+abbrev pub invariant-loop-action : goal.invariant-loop-action
+invariant-loop-action l = is_among l.e (emissions (drop l.action-index l.actions) l.header) ≡ is_among l.e (emissions l.actions l.h)

@@ -1,0 +1,4 @@
+pub mod Acting
+pub mod Emitting
+pub mod Filling
+pub mod Shaping
