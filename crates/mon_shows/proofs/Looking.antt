@@ -1,14 +1,13 @@
 -- Who wins for a header, by going through a table in order.
-use Rattle.std.proofs.Common.{◌≡◌, ℕ, zero, suc, ◌+◌, ◌<◌, ◌≤◌, Bool, true, false, not, cond, ◌&&◌, ◌||◌, List, [], ◌∷◌, map, length, get_or, drop, Some, None, Option, refl, sym, ap, subst, ◌∙◌, arith, ⊎_elim, add-one, drop-cons}
+use Rattle.std.proofs.Common.{◌≡◌, ℕ, zero, suc, ◌<◌, ◌≤◌, Bool, true, false, not, cond, ◌&&◌, ◌||◌, List, [], ◌∷◌, map, length, get_or, drop, Some, None, Option, refl, sym, ap, subst, ◌∙◌, arith, ⊎_elim, drop-cons}
 use Rattle.std.specs.Prelude.{◌==◌}
 use Rattle.std.specs.List.{filter, list_any, AllByRecursion}
-use Rattle.std.proofs.lemmas.List.{drop_all}
 use Rattle.std.proofs.lemmas.Bool.{cases_Bool, and_left, and_right, and_from, false≢true, eq-eqb, ne_eqb}
 use Rattle.mon_header.specs.declared.header.Header.{Header}
 use Rattle.mon_header.specs.Matching.{matches}
 use Rattle.mon_table.specs.declared.rule.Rule.{Rule}
 use Rattle.mon_table.specs.Rules.{identity_of, rank, comes_before}
-use Rattle.mon_table.specs.Tables.{InOrder, places}
+use Rattle.mon_table.specs.Tables.{InOrder}
 use Rattle.mon_table.specs.Winners.{wins, winners}
 use Rattle.mon_table.specs.Places.{top_rank, is_at_rank}
 use Rattle.mon_table.proofs.Identities.{comes_before-falls}
@@ -17,7 +16,7 @@ use Rattle.mon_table.proofs.Members.{places-shown}
 use Rattle.mon_outcome.specs.declared.emission.Emission.{Emission}
 use Rattle.mon_outcome.specs.Emitting.{must, may}
 use Rattle.mon_shows.specs.Separation.{is_miss, is_sure, is_possible}
-use Rattle.mon_shows.specs.Scanning.{any_at, is_sure_in, may_at_rank, any_may_at}
+use Rattle.mon_shows.specs.Scanning.{any_at, is_sure_in, any_may_at}
 
 -- the rules from a place on
 pub rest-is : (t : List Rule) (n : ℕ) (r : Rule) → n < length t → r ≡ get_or t n r → drop n t ≡ r ∷ drop (suc n) t

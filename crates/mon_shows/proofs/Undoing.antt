@@ -1,20 +1,23 @@
 -- Who wins for a header once a rule is left out, or thought in.
-use Rattle.std.proofs.Common.{◌≡◌, ℕ, suc, ◌+◌, ◌<◌, ◌≤◌, Bool, true, false, not, cond, ◌&&◌, ◌||◌, List, [], ◌∷◌, length, get_or, drop, Some, None, Option, refl, sym, ap, subst, ◌∙◌, arith, ⊎_elim}
-use Rattle.std.specs.Prelude.{◌==◌, nat_lt}
+use Rattle.std.proofs.Common.{◌≡◌, ℕ, ◌≤◌, Bool, true, false, cond, ◌&&◌, ◌||◌, List, [], ◌∷◌, Some, None, Option, refl, sym, ap, ◌∙◌, arith, ⊎_elim}
+use Rattle.std.specs.Prelude.{◌==◌}
 use Rattle.std.specs.List.{list_any, AllByRecursion}
-use Rattle.std.proofs.lemmas.Bool.{cases_Bool, and_left, and_right, ne_eqb, lt-ltb, le-ltb, ltb-true}
+use Rattle.std.proofs.lemmas.Bool.{cases_Bool, and_left, and_right, lt-ltb, le-ltb}
 use Rattle.mon_header.specs.declared.header.Header.{Header}
 use Rattle.mon_header.specs.Matching.{IsNormal, matches}
 use Rattle.mon_table.specs.declared.rule.Rule.{Rule}
-use Rattle.mon_table.specs.Rules.{Identity, identity_of, rank, same_identity, comes_before}
+use Rattle.mon_table.specs.Rules.{identity_of, rank, comes_before}
 use Rattle.mon_table.specs.Tables.{InOrder, IsTable, without, placed, with_rule}
+use Rattle.mon_table.specs.declared.edit.Edit.TheVariants as edit
+use Rattle.mon_table.specs.Edits.{undone}
 use Rattle.mon_table.specs.Winners.{winners}
-use Rattle.mon_table.specs.Places.{top_rank, is_at_rank}
+use Rattle.mon_table.specs.Places.{top_rank}
 use Rattle.mon_table.proofs.Identities.{comes_before-falls}
 use Rattle.mon_table.proofs.Keeping.{table-with, table-without}
 use Rattle.mon_outcome.specs.declared.emission.Emission.{Emission}
 use Rattle.mon_outcome.specs.Emitting.{may}
-use Rattle.mon_shows.specs.Separation.{is_miss, is_possible}
+use Rattle.mon_shows.specs.declared.target.Target.TheVariants as target
+use Rattle.mon_shows.specs.Separation.{is_possible, without_update}
 use Rattle.mon_shows.specs.Scanning.{may_at_rank, may_here, any_may_at, higher}
 use Rattle.mon_shows.proofs.Looking.{top-matched, top-passed, possible-some, possible-none}
 
@@ -116,3 +119,8 @@ by-first x false b c e f g = absurd (let h : ⊥ = cc in h)
 pub by-second : (x y a b c : Bool) → x ≡ a → x ≡ false → y ≡ b → (a || b) ≡ c → y ≡ c
 by-second x y true b c e f k g = absurd (let h : ⊥ = cc in h)
 by-second x y false b c e f k g = k ∙ g
+
+-- a put taken back
+pub put-undone : (t : List Rule) (r : Rule) (old : Option Rule) → without_update t (target.Put r old) ≡ undone t (edit.Put r old)
+put-undone t r None = refl
+put-undone t r (Some old) = refl

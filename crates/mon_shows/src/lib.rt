@@ -10,6 +10,8 @@
 //! thinks one in, and stops behind the first effective priority that matches.
 #![tactic(auto)]
 
+#[cfg(test)]
+mod cases;
 pub mod laws;
 mod lookup;
 mod near;

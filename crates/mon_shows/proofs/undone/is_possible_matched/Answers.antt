@@ -1,9 +1,3 @@
-use Rattle.std.proofs.Common.{◌≡◌, ◌||◌, ap, ◌∙◌}
-use Rattle.mon_table.specs.Rules.{identity_of, rank}
-use Rattle.mon_table.specs.Tables.{without, with_rule}
-use Rattle.mon_table.specs.Winners.{winners}
-use Rattle.mon_shows.specs.Separation.{is_possible}
-use Rattle.mon_shows.specs.Scanning.{any_may_at, may_here, higher}
 use Rattle.mon_shows.proofs.Undoing.{possible-matched, by-first, by-second}
 use Rattle.mon_shows.proofs.undone.is_possible_matched.Goals as goal
 

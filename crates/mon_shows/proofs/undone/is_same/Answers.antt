@@ -1,5 +1,4 @@
 use Rattle.std.proofs.Common.{sym, ◌∙◌}
-use Rattle.std.proofs.lemmas.Bool.{and_left}
 use Rattle.mon_table.proofs.Identities.{same_identity-from}
 use Rattle.mon_shows.proofs.undone.is_same.Goals as goal
 
