@@ -246,82 +246,131 @@ fn catching(alloc: Global) -> Result<Table, OutOfMemory> {
     Ok(table)
 }
 
+/// Updates of the rule for 10.0.0.0/24.
+#[derive(Clone, Copy, Debug)]
+enum Case {
+    /// It outputs to port 2 and is put, watched or cut.
+    Put,
+    Watch,
+    Cut,
+    /// It outputs to port 2 in place of the ports 1 to 3.
+    Narrowed,
+    /// It outputs to port 1 in place of port 2.
+    Moved,
+    /// It drops packets.
+    Dropping,
+}
+
+fn target(alloc: Global, case: Case) -> Result<Target, OutOfMemory> {
+    let ports: &[u16] = match case {
+        Case::Put | Case::Watch | Case::Cut | Case::Narrowed => &[2],
+        Case::Moved => &[1],
+        Case::Dropping => &[],
+    };
+    let rule = to_24(alloc, ports)?;
+    match case {
+        Case::Put | Case::Dropping => Ok(Target::Put { rule, old: None }),
+        Case::Watch => Ok(Target::Watch { rule }),
+        Case::Cut => Ok(Target::Cut { rule }),
+        Case::Narrowed => with_old(alloc, rule, &[1, 2, 3]),
+        Case::Moved => with_old(alloc, rule, &[2]),
+    }
+}
+
+fn with_old(alloc: Global, rule: Rule, ports: &[u16]) -> Result<Target, OutOfMemory> {
+    let old = Some(to_24(alloc, ports)?);
+    Ok(Target::Put { rule, old })
+}
+
+/// The catching rules, the target's rule where it wasn't cut, and a lower rule that outputs to port 2 where one is asked
+/// for.
+fn table_after(alloc: Global, case: Case, lower: bool) -> Result<Table, OutOfMemory> {
+    let mut table = catching(alloc)?;
+    match target(alloc, case)? {
+        Target::Put { rule, .. } | Target::Watch { rule } => {
+            let _ = table.put(rule)?;
+        }
+        Target::Cut { .. } => {}
+    }
+    if lower {
+        let _ = table.put(ipv4(alloc, 0x003820ef, 0, 0, 50)?)?;
+    }
+    Ok(table)
+}
+
+/// Whether the header and the emission separate, in the view with this miss length.
+fn does_separate(
+    alloc: Global,
+    miss: u16,
+    table: &Table,
+    case: Case,
+    h: &Header,
+    e: &Emission,
+) -> Result<bool, OutOfMemory> {
+    let x = target(alloc, case)?;
+    let v = view(alloc, miss)?;
+    Ok(separates(&v, table, &x, h, e))
+}
+
 #[test]
 fn packets_separate_as_worked_out(rt: HostRuntime) -> Result<(), Fail> {
     let alloc = rt.alloc();
-    let v = view(alloc, 128)?;
-    let (h, back) = (
-        PACKET,
-        Header {
-            in_port: 2,
-            ..PACKET
-        },
-    );
-    let (by_2, miss) = (Emission::Port(2, h), Emission::Miss(h));
-    let mut table = catching(alloc)?;
-
-    let cut = Target::Cut {
-        rule: to_24(alloc, &[2])?,
+    let back = Header {
+        in_port: 2,
+        ..PACKET
     };
-    assert!(rt; separates(&v, &table, &cut, &h, &miss));
-    assert!(rt; !separates(&view(alloc, 127)?, &table, &cut, &h, &miss));
-
-    let _ = table.put(to_24(alloc, &[2])?)?;
-    let put = Target::Put {
-        rule: to_24(alloc, &[2])?,
-        old: None,
-    };
-    let watch = Target::Watch {
-        rule: to_24(alloc, &[2])?,
-    };
-    assert!(rt; separates(&v, &table, &put, &h, &by_2));
-    assert!(rt; separates(&v, &table, &watch, &h, &by_2));
-    assert!(rt; !separates(&v, &table, &put, &back, &Emission::Port(2, back)));
-    let wider = Target::Put {
-        rule: to_24(alloc, &[2])?,
-        old: Some(to_24(alloc, &[1, 2, 3])?),
-    };
-    assert!(rt; !separates(&v, &table, &wider, &h, &by_2));
-
-    let _ = table.put(ipv4(alloc, 0x003820ef, 0, 0, 50)?)?;
-    assert!(rt; !separates(&v, &table, &put, &h, &by_2));
-
-    let _ = table.put(to_24(alloc, &[1])?)?;
-    let replaced = Target::Put {
-        rule: to_24(alloc, &[1])?,
-        old: Some(to_24(alloc, &[2])?),
-    };
-    assert!(rt; separates(&v, &table, &replaced, &back, &Emission::Port(1, back)));
-
-    let _ = table.put(to_24(alloc, &[])?)?;
-    let dropped = Target::Put {
-        rule: to_24(alloc, &[])?,
-        old: None,
-    };
-    assert!(rt; !separates(&v, &table, &dropped, &h, &by_2));
-    assert!(rt; !separates(&v, &table, &dropped, &h, &miss));
+    let (by_2, miss) = (Emission::Port(2, PACKET), Emission::Miss(PACKET));
+    for (case, lower, miss_length, h, e, wanted) in [
+        (Case::Put, false, 128, PACKET, by_2, true),
+        (Case::Put, false, 128, back, Emission::Port(2, back), false),
+        (Case::Put, true, 128, PACKET, by_2, false),
+        (Case::Watch, false, 128, PACKET, by_2, true),
+        (Case::Cut, false, 128, PACKET, miss, true),
+        (Case::Cut, false, 127, PACKET, miss, false),
+        (Case::Cut, true, 128, PACKET, by_2, false),
+        (Case::Narrowed, false, 128, PACKET, by_2, false),
+        (Case::Moved, false, 128, back, Emission::Port(1, back), true),
+        (Case::Dropping, false, 128, PACKET, by_2, false),
+        (Case::Dropping, false, 128, PACKET, miss, false),
+    ] {
+        let table = table_after(alloc, case, lower)?;
+        let answer = does_separate(alloc, miss_length, &table, case, &h, &e)?;
+        assert!(rt; answer == wanted, "{case:?} {lower} {miss_length}");
+    }
     Ok(())
+}
+
+/// Two rules of the priority 100, from 10.0.0.0/8 and to 10.0.0.0/8.
+fn from_8(alloc: Global) -> Result<Rule, OutOfMemory> {
+    ipv4(alloc, 0x003818ef, 0x0a000000, 0, 100)
+}
+
+fn to_8(alloc: Global) -> Result<Rule, OutOfMemory> {
+    ipv4(alloc, 0x003620ef, 0, 0x0a000000, 100)
+}
+
+fn is_shown(alloc: Global, table: &Table, h: &Header) -> Result<bool, OutOfMemory> {
+    let x = Target::Put {
+        rule: from_8(alloc)?,
+        old: None,
+    };
+    let v = view(alloc, 128)?;
+    Ok(separates(&v, table, &x, h, &Emission::Port(2, *h)))
 }
 
 #[test]
 fn tied_rules_are_never_sure(rt: HostRuntime) -> Result<(), Fail> {
     let alloc = rt.alloc();
-    let mut table = catching(alloc)?;
-    let _ = table.put(ipv4(alloc, 0x003818ef, 0x0a000000, 0, 100)?)?;
-    let from = Target::Put {
-        rule: ipv4(alloc, 0x003818ef, 0x0a000000, 0, 100)?,
-        old: None,
-    };
-    let v = view(alloc, 128)?;
     let h = Header {
         nw_src: 0x0a000001,
         ..PACKET
     };
-    let by_2 = Emission::Port(2, h);
-    assert!(rt; separates(&v, &table, &from, &h, &by_2));
-    let to = ipv4(alloc, 0x003620ef, 0, 0x0a000000, 100)?;
-    assert!(rt; table.tied(&to));
-    let _ = table.put(to)?;
-    assert!(rt; !separates(&v, &table, &from, &h, &by_2));
+    let mut table = catching(alloc)?;
+    let _ = table.put(from_8(alloc)?)?;
+    assert!(rt; is_shown(alloc, &table, &h)?);
+    assert!(rt; table.tied(&to_8(alloc)?));
+    let _ = table.put(to_8(alloc)?)?;
+    assert!(rt; table.tied(&to_8(alloc)?));
+    assert!(rt; !is_shown(alloc, &table, &h)?);
     Ok(())
 }
