@@ -1,0 +1,4 @@
+pub mod Seeing
+pub mod Keeping
+pub mod Looking
+pub mod Undoing

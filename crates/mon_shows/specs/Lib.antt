@@ -1,0 +1,4 @@
+pub mod Links
+pub mod Views
+pub mod Separation
+pub mod Scanning

@@ -1,0 +1,376 @@
+//! Views and tables that were worked out by hand.
+
+ghost use Rattle.std.specs.Prelude.{◌<◌, ◌^◌};
+
+use crate::near::Near;
+use crate::seen::Seen;
+use crate::separate::separates;
+use crate::sight::{caught, craftable, observed};
+use crate::target::Target;
+use crate::view::View;
+use mon_header::{Action, Actions, Header, Match, OutOfMemory};
+use mon_list::Items;
+use mon_outcome::Emission;
+use mon_table::{Rule, Table};
+use mon_topo::Vids;
+use std::alloc::Global;
+use std::test::Fail;
+
+/// A header of zeros.
+const BLANK: Header = Header {
+    in_port: 0,
+    dl_src: 0,
+    dl_dst: 0,
+    dl_vlan: 0,
+    dl_vlan_pcp: 0,
+    dl_type: 0,
+    nw_tos: 0,
+    nw_proto: 0,
+    nw_src: 0,
+    nw_dst: 0,
+    tp_src: 0,
+    tp_dst: 0,
+};
+
+/// A datagram from 0.0.0.0 to 10.0.0.1 that comes in at port 1 with the tag 100.
+const PACKET: Header = Header {
+    in_port: 1,
+    dl_src: 0x020000000001,
+    dl_dst: 0x020000000002,
+    dl_vlan: 100,
+    dl_type: 0x0800,
+    nw_proto: 17,
+    nw_dst: 0x0a000001,
+    ..BLANK
+};
+
+/// The switch 1 with the tag 100, between the switches 2 at its port 1 and 3 at its port 2. Both have the tag 101.
+fn view(alloc: Global, miss: u16) -> Result<View, OutOfMemory> {
+    let mut tags = Vids::new(alloc);
+    tags.push(100)?;
+    tags.push(101)?;
+    let mut links = Items::new(alloc);
+    links.push(Near {
+        port: 1,
+        switch: 2,
+        far_port: 1,
+        tag: 101,
+    })?;
+    links.push(Near {
+        port: 2,
+        switch: 3,
+        far_port: 1,
+        tag: 101,
+    })?;
+    Ok(View {
+        switch: 1,
+        tag: 100,
+        tags,
+        links,
+        miss,
+    })
+}
+
+#[test]
+fn views_show_what_was_worked_out(rt: HostRuntime) -> Result<(), Fail> {
+    let v = view(rt.alloc(), 128)?;
+    let to = |dl_dst| Header { dl_dst, ..PACKET };
+    for (h, wanted) in [
+        (PACKET, true),
+        (
+            Header {
+                in_port: 2,
+                ..PACKET
+            },
+            true,
+        ),
+        (
+            Header {
+                in_port: 3,
+                ..PACKET
+            },
+            false,
+        ),
+        (
+            Header {
+                dl_vlan: 101,
+                ..PACKET
+            },
+            false,
+        ),
+        (
+            Header {
+                dl_src: 0x030000000001,
+                ..PACKET
+            },
+            false,
+        ),
+        (
+            Header {
+                dl_type: 0x0806,
+                ..PACKET
+            },
+            false,
+        ),
+        (to(0x024d4f4e4f00), false),
+        (to(0x0180c1ffffff), true),
+        (to(0x0180c2000000), false),
+        (to(0x0180c200000f), false),
+        (to(0x0180c2000010), true),
+    ] {
+        assert!(rt; craftable(&v, &h) == wanted, "{h:?}");
+    }
+    let by_2 = |dl_vlan| Emission::Port(2, Header { dl_vlan, ..PACKET });
+    let seen = |switch, port, reason| {
+        let header = Header {
+            in_port: port,
+            ..PACKET
+        };
+        Some(Seen {
+            switch,
+            port,
+            reason,
+            header,
+        })
+    };
+    let second = Header {
+        in_port: 2,
+        ..PACKET
+    };
+    let there = Seen {
+        switch: 3,
+        port: 1,
+        reason: 1,
+        header: PACKET,
+    };
+    for (e, back, shown) in [
+        (by_2(100), true, Some(there)),
+        (
+            by_2(101),
+            false,
+            Some(Seen {
+                header: Header {
+                    dl_vlan: 101,
+                    ..PACKET
+                },
+                ..there
+            }),
+        ),
+        (
+            by_2(102),
+            false,
+            Some(Seen {
+                header: Header {
+                    dl_vlan: 102,
+                    ..PACKET
+                },
+                ..there
+            }),
+        ),
+        (Emission::Port(3, PACKET), false, None),
+        (Emission::Controller(second), true, seen(1, 2, 1)),
+        (Emission::Miss(second), true, seen(1, 2, 0)),
+    ] {
+        assert!(rt; caught(&v, &e) == back, "{e:?}");
+        assert!(rt; observed(&v, &e) == shown, "{e:?}");
+    }
+    assert!(rt; !caught(&view(rt.alloc(), 127)?, &Emission::Miss(PACKET)));
+    Ok(())
+}
+
+/// A rule that outputs to these ports.
+fn outputs(
+    alloc: Global,
+    wildcards: u32,
+    fields: Header,
+    priority: u16,
+    ports: &[u16],
+) -> Result<Rule, OutOfMemory>
+    requires src { fields.dl_src < 2 ^ 48 }
+    requires dst { fields.dl_dst < 2 ^ 48 }
+{
+    let mut actions = Actions::new(alloc);
+    for port in ports {
+        actions.push(Action::Output {
+            port: *port,
+            max_len: 0xffff,
+        })?;
+    }
+    Ok(Rule {
+        matching: Match::normal(wildcards, fields),
+        priority,
+        actions,
+    })
+}
+
+/// A rule for IPv4 to 10.0.0.0/24 of the priority 100.
+fn to_24(alloc: Global, ports: &[u16]) -> Result<Rule, OutOfMemory> {
+    let fields = Header {
+        dl_type: 0x0800,
+        nw_dst: 0x0a000000,
+        ..BLANK
+    };
+    outputs(alloc, 0x003220ef, fields, 100, ports)
+}
+
+/// A rule for IPv4 from and to these addresses, which outputs to port 2.
+fn ipv4(
+    alloc: Global,
+    wildcards: u32,
+    nw_src: u32,
+    nw_dst: u32,
+    priority: u16,
+) -> Result<Rule, OutOfMemory> {
+    let fields = Header {
+        dl_type: 0x0800,
+        nw_src,
+        nw_dst,
+        ..BLANK
+    };
+    outputs(alloc, wildcards, fields, priority, &[2])
+}
+
+/// The rule that catches the probes of the neighbours, and the one that drops what is marked.
+fn catching(alloc: Global) -> Result<Table, OutOfMemory> {
+    let mut table = Table::new(alloc);
+    let tagged = Header {
+        dl_vlan: 101,
+        ..BLANK
+    };
+    let marked = Header {
+        dl_dst: 0x024d4f4e4f00,
+        ..BLANK
+    };
+    let _ = table.put(outputs(alloc, 0x003820fd, tagged, 65535, &[0xfffd])?)?;
+    let _ = table.put(outputs(alloc, 0x003820f7, marked, 65534, &[])?)?;
+    Ok(table)
+}
+
+/// Updates of the rule for 10.0.0.0/24.
+#[derive(Clone, Copy, Debug)]
+enum Case {
+    /// It outputs to port 2 and is put, watched or cut.
+    Put,
+    Watch,
+    Cut,
+    /// It outputs to port 2 in place of the ports 1 to 3.
+    Narrowed,
+    /// It outputs to port 1 in place of port 2.
+    Moved,
+    /// It drops packets.
+    Dropping,
+}
+
+fn target(alloc: Global, case: Case) -> Result<Target, OutOfMemory> {
+    let ports: &[u16] = match case {
+        Case::Put | Case::Watch | Case::Cut | Case::Narrowed => &[2],
+        Case::Moved => &[1],
+        Case::Dropping => &[],
+    };
+    let rule = to_24(alloc, ports)?;
+    match case {
+        Case::Put | Case::Dropping => Ok(Target::Put { rule, old: None }),
+        Case::Watch => Ok(Target::Watch { rule }),
+        Case::Cut => Ok(Target::Cut { rule }),
+        Case::Narrowed => with_old(alloc, rule, &[1, 2, 3]),
+        Case::Moved => with_old(alloc, rule, &[2]),
+    }
+}
+
+fn with_old(alloc: Global, rule: Rule, ports: &[u16]) -> Result<Target, OutOfMemory> {
+    let old = Some(to_24(alloc, ports)?);
+    Ok(Target::Put { rule, old })
+}
+
+/// The catching rules, the target's rule where it wasn't cut, and a lower rule that outputs to port 2 where one is asked
+/// for.
+fn table_after(alloc: Global, case: Case, lower: bool) -> Result<Table, OutOfMemory> {
+    let mut table = catching(alloc)?;
+    match target(alloc, case)? {
+        Target::Put { rule, .. } | Target::Watch { rule } => {
+            let _ = table.put(rule)?;
+        }
+        Target::Cut { .. } => {}
+    }
+    if lower {
+        let _ = table.put(ipv4(alloc, 0x003820ef, 0, 0, 50)?)?;
+    }
+    Ok(table)
+}
+
+/// Whether the header and the emission separate, in the view with this miss length.
+fn does_separate(
+    alloc: Global,
+    miss: u16,
+    table: &Table,
+    case: Case,
+    h: &Header,
+    e: &Emission,
+) -> Result<bool, OutOfMemory> {
+    let x = target(alloc, case)?;
+    let v = view(alloc, miss)?;
+    Ok(separates(&v, table, &x, h, e))
+}
+
+#[test]
+fn packets_separate_as_worked_out(rt: HostRuntime) -> Result<(), Fail> {
+    let alloc = rt.alloc();
+    let back = Header {
+        in_port: 2,
+        ..PACKET
+    };
+    let (by_2, miss) = (Emission::Port(2, PACKET), Emission::Miss(PACKET));
+    for (case, lower, miss_length, h, e, wanted) in [
+        (Case::Put, false, 128, PACKET, by_2, true),
+        (Case::Put, false, 128, back, Emission::Port(2, back), false),
+        (Case::Put, true, 128, PACKET, by_2, false),
+        (Case::Watch, false, 128, PACKET, by_2, true),
+        (Case::Cut, false, 128, PACKET, miss, true),
+        (Case::Cut, false, 127, PACKET, miss, false),
+        (Case::Cut, true, 128, PACKET, by_2, false),
+        (Case::Narrowed, false, 128, PACKET, by_2, false),
+        (Case::Moved, false, 128, back, Emission::Port(1, back), true),
+        (Case::Dropping, false, 128, PACKET, by_2, false),
+        (Case::Dropping, false, 128, PACKET, miss, false),
+    ] {
+        let table = table_after(alloc, case, lower)?;
+        let answer = does_separate(alloc, miss_length, &table, case, &h, &e)?;
+        assert!(rt; answer == wanted, "{case:?} {lower} {miss_length}");
+    }
+    Ok(())
+}
+
+/// Two rules of the priority 100, from 10.0.0.0/8 and to 10.0.0.0/8.
+fn from_8(alloc: Global) -> Result<Rule, OutOfMemory> {
+    ipv4(alloc, 0x003818ef, 0x0a000000, 0, 100)
+}
+
+fn to_8(alloc: Global) -> Result<Rule, OutOfMemory> {
+    ipv4(alloc, 0x003620ef, 0, 0x0a000000, 100)
+}
+
+fn is_shown(alloc: Global, table: &Table, h: &Header) -> Result<bool, OutOfMemory> {
+    let x = Target::Put {
+        rule: from_8(alloc)?,
+        old: None,
+    };
+    let v = view(alloc, 128)?;
+    Ok(separates(&v, table, &x, h, &Emission::Port(2, *h)))
+}
+
+#[test]
+fn tied_rules_are_never_sure(rt: HostRuntime) -> Result<(), Fail> {
+    let alloc = rt.alloc();
+    let h = Header {
+        nw_src: 0x0a000001,
+        ..PACKET
+    };
+    let mut table = catching(alloc)?;
+    let _ = table.put(from_8(alloc)?)?;
+    assert!(rt; is_shown(alloc, &table, &h)?);
+    assert!(rt; table.tied(&to_8(alloc)?));
+    let _ = table.put(to_8(alloc)?)?;
+    assert!(rt; table.tied(&to_8(alloc)?));
+    assert!(rt; !is_shown(alloc, &table, &h)?);
+    Ok(())
+}
