@@ -1,0 +1,4 @@
+pub mod Lines
+pub mod Follow
+pub mod Marks
+pub mod Law

@@ -1,0 +1,74 @@
+//! Which logs are accepted.
+
+ghost use Rattle.std.specs.Prelude.{◌≡◌, ◌++◌, length, List};
+ghost use Rattle.mon_refute.specs.Marks.{Shows};
+ghost use Rattle.mon_refute.specs.Follow.{reading_of, named, follows, is_accepted, literals_of};
+ghost use Rattle.mon_refute.specs.Law.{AcceptedMeansNone};
+ghost use Rattle.mon_cnf.specs.Truth.{WithinAll};
+ghost use Rattle.mon_cnf.specs.declared.clause.Lit.{Lit};
+
+use crate::lines::{Log, LogLine};
+use crate::marks::{Reading, mark_of, read, start};
+use mon_cnf::{Clause, Formula};
+
+/// What the hinted clause says, and nothing where the hint names no earlier clause.
+fn read_at(cs: &[Clause], earlier: &[LogLine], hint: u64, marks: &[u8]) -> Reading
+    requires { WithinAll (length marks.now) (cs.now ++ literals_of earlier.now) }
+    ensures { (known : List Lit) → Shows marks.now known → result ≡ reading_of known (named (cs.now ++ literals_of earlier.now) hint) }
+{
+    if hint == 0 {
+        return Reading::Neither;
+    }
+    let place = hint - 1;
+    let count = cs.len() as u64;
+    if place < count {
+        return read(cs[place as usize].items(), marks);
+    }
+    let later = place - count;
+    if later < earlier.len() as u64 {
+        return read(earlier[later as usize].literals.items(), marks);
+    }
+    Reading::Neither
+}
+
+/// Whether the line follows from the clauses and the earlier lines by its hints.
+fn follows(cs: &[Clause], earlier: &[LogLine], line: &LogLine, marks: &mut [u8]) -> bool
+    requires { WithinAll (length marks.old) (cs.now ++ literals_of earlier.now) }
+    ensures { result ≡ follows (length marks.old) (cs.now ++ literals_of earlier.now) line.now }
+{
+    if !start(line.literals.items(), marks) {
+        return false;
+    }
+    for hint in line.hints.items() {
+        match read_at(cs, earlier, *hint, marks) {
+            Reading::Contradicts => return true,
+            Reading::Gives(literal) => marks[literal.var as usize] = mark_of(literal),
+            Reading::Neither => return false,
+        }
+    }
+    false
+}
+
+/// Whether the log refutes the formula: each line follows from the formula's clauses and the lines before it by its
+/// hints, and the last line is empty. There is one mark for each variable, and the marks may be in any state. It takes
+/// no memory.
+pub fn accepts(f: &Formula, log: &Log, marks: &mut [u8]) -> bool
+    requires { length marks.old ≡ f.now.vars }
+    ensures { result ≡ is_accepted f.now.vars f.now.clauses log.now }
+{
+    let cs = f.clauses();
+    let lines = log.items();
+    let mut ends = false;
+    for (i, line) in lines.iter().enumerate() {
+        if !follows(cs, &lines[..i], line, marks) {
+            return false;
+        }
+        ends = line.literals.items().is_empty();
+    }
+    ends
+}
+
+/// No assignment satisfies a formula that has an accepted log.
+pub fn accepted_means_none()
+    ensures { AcceptedMeansNone }
+{}
