@@ -13,7 +13,12 @@
 mod check;
 mod lines;
 mod marks;
+mod number;
+mod read;
+mod write;
 
 pub use check::{accepted_means_none, accepts};
 pub use lines::{Hints, Log, LogLine, Logs};
 pub use mon_list::OutOfMemory;
+pub use read::{LogFault, read_log};
+pub use write::write_log;
