@@ -15,3 +15,6 @@ pub use clause::{Bits, Clause, Lit};
 pub use formula::Formula;
 pub use mon_list::OutOfMemory;
 pub use truth::holds;
+
+#[cfg(test)]
+mod tests;

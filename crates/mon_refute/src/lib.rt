@@ -22,3 +22,6 @@ pub use lines::{Hints, Log, LogLine, Logs};
 pub use mon_list::OutOfMemory;
 pub use read::{LogFault, read_log};
 pub use write::write_log;
+
+#[cfg(test)]
+mod tests;
