@@ -71,7 +71,7 @@ within_push : (n : ℕ) (cs : List (List Lit)) (c : List Lit) → WithinAll n cs
 within_push n [] c w x = (x, tt)
 within_push n (d ∷ ds) c w x = (w.0, within_push n ds c w.1 x)
 
-ends_push : (log : List LogLine) (l : LogLine) → ends_empty (log ++ (l ∷ [])) ≡ is_empty l.literals
+pub ends_push : (log : List LogLine) (l : LogLine) → ends_empty (log ++ (l ∷ [])) ≡ is_empty l.literals
 ends_push [] l = refl
 ends_push (m ∷ []) l = refl
 ends_push (m ∷ k ∷ ms) l = ends_push (k ∷ ms) l
