@@ -25,3 +25,6 @@ mod solve;
 
 pub use mon_list::OutOfMemory;
 pub use solve::{Outcome, solve_plain};
+
+#[cfg(test)]
+mod tests;
