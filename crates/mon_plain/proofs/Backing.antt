@@ -4,14 +4,14 @@ use Rattle.std.proofs.lemmas.List.{append-nil}
 use Rattle.mon_cnf.specs.declared.clause.Lit.{Lit}
 use Rattle.mon_cnf.specs.Formulas.{Cnf}
 use Rattle.mon_refute.specs.declared.lines.LogLine.{LogLine}
-use Rattle.mon_refute.specs.Follow.{named, opposite, follows, all_follow}
+use Rattle.mon_refute.specs.Follow.{named, opposite, follows, all_follow, mentions}
 use Rattle.mon_refute.proofs.Growing.{one_more, follow_push, number_last}
 use Rattle.mon_refute.proofs.Readings.{not_not}
 use Rattle.mon_plain.specs.declared.look.Mark.{Mark}
 use Rattle.mon_plain.specs.declared.look.Mark.TheVariants.{Free, Is}
 use Rattle.mon_plain.specs.declared.pick.Entry.{Entry}
 use Rattle.mon_plain.specs.declared.back.Back.TheVariants.{Refutes, Forces}
-use Rattle.mon_plain.specs.Marks.{mentions, all_off}
+use Rattle.mon_plain.specs.Marks.{all_off}
 use Rattle.mon_plain.specs.Trail.{HasReason, Reasoned, CanEnter, Leads, IsClosed, Stands, clauses_with, is_forced}
 use Rattle.mon_plain.specs.Search.{Added, IsNamed, Backing, BackedUp}
 use Rattle.mon_plain.proofs.Trails.{Popped, leads_pop, leads_more, leads_length, freed}

@@ -6,12 +6,12 @@ use Rattle.std.proofs.lemmas.Bool.{false≢true, and_parts, and_from, eqb-true, 
 use Rattle.mon_cnf.specs.declared.clause.Lit.{Lit}
 use Rattle.mon_refute.specs.declared.lines.LogLine.{LogLine}
 use Rattle.mon_refute.specs.declared.marks.Reading.TheVariants.{Contradicts, Gives}
-use Rattle.mon_refute.specs.Follow.{opposite, is_true, is_false, rest, reading, reading_of, named, by_hints, by_start, follows}
+use Rattle.mon_refute.specs.Follow.{opposite, is_true, is_false, rest, reading, reading_of, named, by_hints, by_start, follows, mentions}
 use Rattle.mon_refute.specs.Has.{Has}
 use Rattle.mon_refute.proofs.Readings.{all_has, has_all, has_true, true_has, reading_none, reading_unit, opposite_opposite, not_not, hint_then}
 use Rattle.mon_plain.specs.declared.look.Mark.{Mark}
 use Rattle.mon_plain.specs.declared.look.Mark.TheVariants.{Free, Is}
-use Rattle.mon_plain.specs.Marks.{mark_at, is_off, makes_on, makes_off, all_off, mentions, IsOpen}
+use Rattle.mon_plain.specs.Marks.{mark_at, is_off, makes_on, makes_off, all_off, IsOpen}
 use Rattle.mon_plain.specs.Trail.{IsClosed}
 use Rattle.mon_plain.specs.Search.{Resolved}
 use Rattle.mon_plain.proofs.Falsified.{KnownOn, falsified, off_here}

@@ -1,8 +1,8 @@
 -- What marks say of literals and clauses.
-use Rattle.std.specs.Prelude.{◌≡◌, ℕ, ◌<◌, Bool, true, false, not, cond, ◌==◌, List, length, slice_index_or, slice_set}
+use Rattle.std.specs.Prelude.{◌≡◌, ℕ, ◌<◌, Bool, true, false, not, cond, List, length, slice_index_or, slice_set}
 use Rattle.std.specs.List.{list_any, list_all}
 use Rattle.mon_cnf.specs.declared.clause.Lit.{Lit}
-use Rattle.mon_refute.specs.Follow.{same}
+use Rattle.mon_refute.specs.Follow.{mentions, same}
 use Rattle.mon_plain.specs.declared.look.Mark.{Mark}
 use Rattle.mon_plain.specs.declared.look.Mark.TheVariants.{Free, Is}
 use Rattle.mon_plain.specs.declared.look.Look.{Look}
@@ -32,9 +32,6 @@ all_off marks c = list_all (is_off marks) c
 
 abbrev pub any_on : List Mark → List Lit → Bool
 any_on marks c = list_any (is_on marks) c
-
-abbrev pub mentions : ℕ → List Lit → Bool
-mentions x c = list_any (λ k. k.var == x) c
 
 -- the literal is of a variable that isn't decided
 abbrev pub IsOpen : List Mark → Lit → Type 0

@@ -32,6 +32,18 @@ reading known (l ∷ ls) = cond (not (is_true known l) && list_all (same l) ls) 
 abbrev pub named : List (List Lit) → ℕ → Option (List Lit)
 named cs h = cond (h == 0) None (slice_get cs (h - 1))
 
+-- the literals of the clause of this number, and none where there is no such clause
+abbrev pub literals_in : Option (List Lit) → List Lit
+literals_in None = []
+literals_in (Some c) = c
+
+abbrev pub hinted : List (List Lit) → ℕ → List Lit
+hinted cs h = literals_in (named cs h)
+
+-- some literal of the clause is of this variable
+abbrev pub mentions : ℕ → List Lit → Bool
+mentions x c = list_any (λ l. l.var == x) c
+
 abbrev pub reading_of : List Lit → Option (List Lit) → Reading
 reading_of known None = Neither
 reading_of known (Some c) = reading known (rest known c)

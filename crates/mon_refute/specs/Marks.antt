@@ -3,7 +3,7 @@ use Rattle.std.specs.Prelude.{◌≡◌, ℕ, ◌<◌, Bool, true, false, cond, 
 use Rattle.mon_cnf.specs.declared.clause.Lit.{Lit}
 use Rattle.mon_refute.specs.declared.marks.Reading.{Reading}
 use Rattle.mon_refute.specs.declared.marks.Reading.TheVariants.{Contradicts, Gives, Neither}
-use Rattle.mon_refute.specs.Follow.{is_true, is_false, same}
+use Rattle.mon_refute.specs.Follow.{is_true, is_false, same, mentions}
 
 -- the mark of a true variable is 1, that of a false one 2
 abbrev pub says : ℕ → Bool → Bool
@@ -25,3 +25,11 @@ note_with f t Neither l = Neither
 abbrev pub reads : List Lit → Reading → List Lit → Reading
 reads known so_far [] = so_far
 reads known so_far (l ∷ ls) = reads known (note_with (is_false known l) (is_true known l) so_far l) ls
+
+-- nothing is marked
+abbrev pub AreClear : List ℕ → Type 0
+AreClear marks = (x : ℕ) → slice_index marks x ≡ 0
+
+-- nothing is marked but variables of these literals
+abbrev pub ClearBut : List Lit → List ℕ → Type 0
+ClearBut c marks = (x : ℕ) → mentions x c ≡ false → slice_index marks x ≡ 0

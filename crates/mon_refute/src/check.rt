@@ -1,15 +1,16 @@
 //! Which logs are accepted.
 
 ghost use Rattle.std.specs.Prelude.{◌≡◌, ◌++◌, length, List};
-ghost use Rattle.mon_refute.specs.Marks.{Shows};
-ghost use Rattle.mon_refute.specs.Follow.{reading_of, named, follows, is_accepted, literals_of};
+ghost use Rattle.std.specs.List.{flat_map};
+ghost use Rattle.mon_refute.specs.Marks.{Shows, AreClear, ClearBut};
+ghost use Rattle.mon_refute.specs.Follow.{reading_of, named, hinted, follows, is_accepted, literals_of};
 ghost use Rattle.mon_refute.specs.Law.{AcceptedMeansNone};
 ghost use Rattle.mon_cnf.specs.Truth.{WithinAll};
 ghost use Rattle.mon_cnf.specs.declared.clause.Lit.{Lit};
 
 use crate::lines::{Log, LogLine};
-use crate::marks::{Reading, mark_of, read, start};
-use mon_cnf::{Clause, Formula};
+use crate::marks::{Reading, clear, mark_of, read, start};
+use mon_cnf::{Clause, Formula, Lit};
 
 /// What the hinted clause says, and nothing where the hint names no earlier clause.
 fn read_at(cs: &[Clause], earlier: &[LogLine], hint: u64, marks: &[u8]) -> Reading
@@ -31,10 +32,32 @@ fn read_at(cs: &[Clause], earlier: &[LogLine], hint: u64, marks: &[u8]) -> Readi
     Reading::Neither
 }
 
-/// Whether the line follows from the clauses and the earlier lines by its hints.
-fn follows(cs: &[Clause], earlier: &[LogLine], line: &LogLine, marks: &mut [u8]) -> bool
-    requires { WithinAll (length marks.old) (cs.now ++ literals_of earlier.now) }
-    ensures { result ≡ follows (length marks.old) (cs.now ++ literals_of earlier.now) line.now }
+/// The hinted clause, and no literal where the hint names no earlier clause.
+fn hinted<'a>(cs: &'a [Clause], earlier: &'a [LogLine], hint: u64) -> &'a [Lit]
+    ensures { result.now ≡ hinted (cs.now ++ literals_of earlier.now) hint }
+{
+    if hint == 0 {
+        return &[];
+    }
+    let place = hint - 1;
+    let count = cs.len() as u64;
+    if place < count {
+        return cs[place as usize].items();
+    }
+    let later = place - count;
+    if later < earlier.len() as u64 {
+        return earlier[later as usize].literals.items();
+    }
+    &[]
+}
+
+/// Whether the line follows from the clauses and the earlier lines by its hints. What it marks stays marked, and
+/// nothing else is.
+fn follows_marking(cs: &[Clause], earlier: &[LogLine], line: &LogLine, marks: &mut [u8]) -> bool
+    requires within { WithinAll (length marks.old) (cs.now ++ literals_of earlier.now) }
+    requires clear { AreClear marks.old }
+    ensures value { result ≡ follows (length marks.old) (cs.now ++ literals_of earlier.now) line.now }
+    ensures others { ClearBut (line.now.literals ++ flat_map (hinted (cs.now ++ literals_of earlier.now)) line.now.hints) marks.new }
 {
     if !start(line.literals.items(), marks) {
         return false;
@@ -49,6 +72,29 @@ fn follows(cs: &[Clause], earlier: &[LogLine], line: &LogLine, marks: &mut [u8])
     false
 }
 
+/// Clears what a line has marked.
+fn restore(cs: &[Clause], earlier: &[LogLine], line: &LogLine, marks: &mut [u8])
+    requires { ClearBut (line.now.literals ++ flat_map (hinted (cs.now ++ literals_of earlier.now)) line.now.hints) marks.old }
+    ensures { AreClear marks.new }
+{
+    clear(line.literals.items(), marks);
+    for hint in line.hints.items() {
+        clear(hinted(cs, earlier, *hint), marks);
+    }
+}
+
+/// Whether the line follows from the clauses and the earlier lines by its hints. No mark is left.
+fn follows(cs: &[Clause], earlier: &[LogLine], line: &LogLine, marks: &mut [u8]) -> bool
+    requires within { WithinAll (length marks.old) (cs.now ++ literals_of earlier.now) }
+    requires clear { AreClear marks.old }
+    ensures value { result ≡ follows (length marks.old) (cs.now ++ literals_of earlier.now) line.now }
+    ensures clear { AreClear marks.new }
+{
+    let result = follows_marking(cs, earlier, line, marks);
+    restore(cs, earlier, line, marks);
+    result
+}
+
 /// Whether the log refutes the formula: each line follows from the formula's clauses and the lines before it by its
 /// hints, and the last line is empty. There is one mark for each variable, and the marks may be in any state. It takes
 /// no memory.
@@ -58,6 +104,7 @@ pub fn accepts(f: &Formula, log: &Log, marks: &mut [u8]) -> bool
 {
     let cs = f.clauses();
     let lines = log.items();
+    marks.fill(0);
     let mut ends = false;
     for (i, line) in lines.iter().enumerate() {
         if !follows(cs, &lines[..i], line, marks) {

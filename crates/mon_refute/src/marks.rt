@@ -1,9 +1,9 @@
 //! What is known of each variable while a line is checked, as one mark a variable: 1 where it is true, 2 where it is
-//! false.
+//! false, and 0 where nothing is known. Between lines each mark is 0.
 
-ghost use Rattle.std.specs.Prelude.{◌≡◌, ◌<◌, [], length, cond, not, List};
-ghost use Rattle.mon_refute.specs.Marks.{Shows, Started, says, note_with};
-ghost use Rattle.mon_refute.specs.Follow.{reading, rest, falsify};
+ghost use Rattle.std.specs.Prelude.{◌≡◌, ◌<◌, ℕ, [], false, length, slice_index, cond, not, List};
+ghost use Rattle.mon_refute.specs.Marks.{Shows, Started, says, note_with, AreClear, ClearBut};
+ghost use Rattle.mon_refute.specs.Follow.{reading, rest, falsify, mentions};
 ghost use Rattle.mon_cnf.specs.Truth.{Within};
 ghost use Rattle.mon_cnf.specs.declared.clause.Lit.{Lit};
 
@@ -34,12 +34,13 @@ fn other_mark_of(literal: Lit) -> u8
     if literal.positive { 2 } else { 1 }
 }
 
-/// Forgets all that was marked, and marks the literals of a line false. It answers false where that cannot be: a
-/// variable isn't marked at all, or the line has a literal and its opposite.
+/// Marks the literals of a line false, where nothing is marked yet. It answers false where that cannot be: a variable
+/// has no mark, or the line has a literal and its opposite.
 pub fn start(line: &[Lit], marks: &mut [u8]) -> bool
-    ensures { Started result marks.new (falsify (length marks.old) [] line.now) }
+    requires { AreClear marks.old }
+    ensures started { Started result marks.new (falsify (length marks.old) [] line.now) }
+    ensures others { ClearBut line.now marks.new }
 {
-    marks.fill(0);
     for literal in line {
         let var = literal.var as usize;
         if var >= marks.len() || marks[var] == mark_of(*literal) {
@@ -86,4 +87,16 @@ pub fn read(clause: &[Lit], marks: &[u8]) -> Reading
         so_far = note(so_far, *literal, marks[literal.var as usize]);
     }
     so_far
+}
+
+/// Clears the marks of the clause's variables.
+pub fn clear(clause: &[Lit], marks: &mut [u8])
+    ensures { (x : ℕ) → (mentions x clause.now ≡ false → slice_index marks.old x ≡ 0) → slice_index marks.new x ≡ 0 }
+{
+    for literal in clause {
+        let var = literal.var as usize;
+        if var < marks.len() {
+            marks[var] = 0;
+        }
+    }
 }

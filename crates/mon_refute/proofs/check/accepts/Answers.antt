@@ -10,8 +10,9 @@ loop-i-preserved c =
     let log = c.items-lines.result.now in
     let i = c.loop-i.i in
     let l = c.index-lines-i.result in
-    let f : follows n (cs ++ literals_of (take i log)) l ≡ true = ap (λ m. follows m (cs ++ literals_of (take i log)) l) (sym c.loop-i.auto.marks) ∙ sym c.follows.ensures ∙ c.if-not-follows.false in
+    let f : follows n (cs ++ literals_of (take i log)) l ≡ true = ap (λ m. follows m (cs ++ literals_of (take i log)) l) (sym (c.loop-i.auto.marks ∙ c.fill.ensures.len)) ∙ sym c.follows.ensures.value ∙ c.if-not-follows.false in
     record {
+      clear = c.follows.ensures.clear;
       within = log_within n cs log i l c.loop-i-test.true c.index-lines-i.is c.loop-i.invariant.within f;
       so_far = c.loop-i.invariant.so_far ∙ log_follows n cs log i l c.loop-i-test.true c.index-lines-i.is f;
       last = log_ends log i l c.items.result.now c.is_empty-ends.result c.loop-i-test.true c.index-lines-i.is c.items.ensures c.is_empty-ends.ensures;
