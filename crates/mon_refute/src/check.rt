@@ -1,10 +1,10 @@
 //! Which logs are accepted.
 
-ghost use Rattle.std.specs.Prelude.{◌≡◌, ◌++◌, length, List};
+ghost use Rattle.std.specs.Prelude.{◌≡◌, ◌++◌, length, List, IsTrue};
 ghost use Rattle.std.specs.List.{flat_map};
 ghost use Rattle.mon_refute.specs.Marks.{Shows, AreClear, ClearBut};
 ghost use Rattle.mon_refute.specs.Follow.{reading_of, named, hinted, follows, is_accepted, literals_of};
-ghost use Rattle.mon_refute.specs.Law.{AcceptedMeansNone};
+ghost use Rattle.mon_refute.specs.Law.{AcceptedMeansNone, Unsatisfiable};
 ghost use Rattle.mon_cnf.specs.Truth.{WithinAll};
 ghost use Rattle.mon_cnf.specs.declared.clause.Lit.{Lit};
 
@@ -95,24 +95,34 @@ fn follows(cs: &[Clause], earlier: &[LogLine], line: &LogLine, marks: &mut [u8])
     result
 }
 
-/// Whether the log refutes the formula: each line follows from the formula's clauses and the lines before it by its
-/// hints, and the last line is empty. There is one mark for each variable, and the marks may be in any state. It takes
-/// no memory.
-pub fn accepts(f: &Formula, log: &Log, marks: &mut [u8]) -> bool
+/// Whether each line follows, and the last one is empty.
+fn is_accepted(f: &Formula, log: &[LogLine], marks: &mut [u8]) -> bool
     requires { length marks.old ≡ f.now.vars }
     ensures { result ≡ is_accepted f.now.vars f.now.clauses log.now }
 {
     let cs = f.clauses();
-    let lines = log.items();
     marks.fill(0);
     let mut ends = false;
-    for (i, line) in lines.iter().enumerate() {
-        if !follows(cs, &lines[..i], line, marks) {
+    for (i, line) in log.iter().enumerate() {
+        if !follows(cs, &log[..i], line, marks) {
             return false;
         }
         ends = line.literals.items().is_empty();
     }
     ends
+}
+
+/// Whether the log refutes the formula: each line follows from the formula's clauses and the lines before it by its
+/// hints, and the last line is empty. There is one mark for each variable, and the marks may be in any state. It takes
+/// no memory.
+pub fn accepts(f: &Formula, log: &Log, marks: &mut [u8]) -> bool
+    requires { length marks.old ≡ f.now.vars }
+    // The definition of an accepted log, in both directions.
+    ensures exact { result ≡ is_accepted f.now.vars f.now.clauses log.now }
+    // So no assignment satisfies the formula.
+    ensures sound { IsTrue result → Unsatisfiable f.now.clauses }
+{
+    is_accepted(f, log.items(), marks)
 }
 
 /// No assignment satisfies a formula that has an accepted log.

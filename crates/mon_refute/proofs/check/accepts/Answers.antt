@@ -1,19 +1,8 @@
-use Rattle.std.proofs.Common.{◌∙◌, ◌≡◌, sym, ap, true, length, ◌++◌, take}
-use Rattle.mon_refute.specs.Follow.{follows, literals_of}
-use Rattle.mon_refute.proofs.Steps.{log_within, log_follows, log_ends}
+use Rattle.std.proofs.Common.{◌∙◌, sym, ap}
+use Rattle.mon_refute.specs.Follow.{is_accepted}
+use Rattle.mon_refute.proofs.Sound.{accepted_none}
 use Rattle.mon_refute.proofs.check.accepts.Goals as goal
 
-pub loop-i-preserved : goal.loop-i-preserved
-loop-i-preserved c =
-    let n = length c.args.marks.now in
-    let cs = c.clauses-cs.result.now in
-    let log = c.items-lines.result.now in
-    let i = c.loop-i.i in
-    let l = c.index-lines-i.result in
-    let f : follows n (cs ++ literals_of (take i log)) l ≡ true = ap (λ m. follows m (cs ++ literals_of (take i log)) l) (sym (c.loop-i.auto.marks ∙ c.fill.ensures.len)) ∙ sym c.follows.ensures.value ∙ c.if-not-follows.false in
-    record {
-      clear = c.follows.ensures.clear;
-      within = log_within n cs log i l c.loop-i-test.true c.index-lines-i.is c.loop-i.invariant.within f;
-      so_far = c.loop-i.invariant.so_far ∙ log_follows n cs log i l c.loop-i-test.true c.index-lines-i.is f;
-      last = log_ends log i l c.items.result.now c.is_empty-ends.result c.loop-i-test.true c.index-lines-i.is c.items.ensures c.is_empty-ends.ensures;
-    }
+pub returns-clause-sound : goal.returns-clause-sound
+returns-clause-sound c t =
+    accepted_none c.args.f.now.vars c.args.f.now.clauses c.args.log.now (ap (is_accepted c.args.f.now.vars c.args.f.now.clauses) (sym c.items.ensures) ∙ sym c.is_accepted.ensures ∙ t)
