@@ -1,23 +1,45 @@
-//! Times of the crates, as words ask: `table N` times a table of N rules. Without words it prints nothing.
+//! Measurements, as words ask; `bench/` has the scripts that give them. Without words it prints nothing.
+//!
+//! `table N` times a table of N rules, `separate N` separation over N rules (N of 0: the frames of probes), and
+//! `solver KIND SIZE [SEED]` the solver.
 #![tactic(auto)]
 
+mod formulas;
+mod separate;
+mod solver;
 mod table;
 
 use std::env;
+
+/// The number that a word spells, 0 where it spells none.
+fn number(word: Option<&String>) -> u64 {
+    match word {
+        Some(word) => word.as_str().parse::<u64>().unwrap_or(0),
+        None => 0,
+    }
+}
 
 fn main(rt: HostRuntime) -> anyhow::Result<()> {
     let mut words = Vec::new(rt.alloc());
     for word in env::args(&rt)?.skip(1) {
         words.push(word)?;
     }
-    let [what, size] = words.as_slice() else {
+    let [subject, kind, rest @ ..] = words.as_slice() else {
         return Ok(());
     };
-    let Ok(size) = size.as_str().parse::<u16>() else {
-        return Ok(());
-    };
-    if what.as_str() == "table" && size > 0 {
-        table::time(&rt, rt.alloc(), size)?;
+    match subject.as_str() {
+        "table" => {
+            let size = number(Some(kind)).min(65_535) as u16;
+            if size > 0 {
+                table::time(&rt, rt.alloc(), size)?;
+            }
+        }
+        "separate" => separate::time(&rt, rt.alloc(), number(Some(kind)).min(65_535) as u16)?,
+        "solver" => {
+            let size = number(rest.first()).min(u64::from(u32::MAX)) as u32;
+            solver::run(&rt, kind.as_str(), size, number(rest.get(1)))?;
+        }
+        _ => println!(rt; "unknown subject {subject}")?,
     }
     Ok(())
 }

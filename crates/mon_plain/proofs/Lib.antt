@@ -1,0 +1,9 @@
+pub mod Looks
+pub mod Joins
+pub mod Falsified
+pub mod Resolving
+pub mod Trails
+pub mod Ranks
+pub mod Backing
+pub mod Stepping
+pub mod Solved

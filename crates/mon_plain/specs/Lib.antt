@@ -1,0 +1,4 @@
+pub mod Marks
+pub mod Trail
+pub mod Search
+pub mod Decided

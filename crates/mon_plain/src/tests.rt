@@ -1,0 +1,114 @@
+//! Small formulas with known answers.
+
+ghost use Rattle.std.specs.Prelude.{◌≡◌, IfOk};
+ghost use Rattle.mon_cnf.specs.Truth.{Within};
+
+use super::*;
+use mon_cnf::{Clause, Formula, Lit, holds};
+use mon_refute::{accepts, read_log, write_log};
+use std::alloc::Global;
+use std::test::*;
+
+/// The literals that are written as a variable's number plus one, negative where the literal is. Those of no variable
+/// are left out.
+fn clause(alloc: Global, vars: u32, literals: &[i32]) -> Result<Clause, OutOfMemory>
+    ensures { IfOk result (Within vars) }
+{
+    let mut clause = Clause::new(alloc);
+    for literal in literals {
+        let var = literal.unsigned_abs().saturating_sub(1);
+        if var < vars {
+            clause.push(Lit {
+                var,
+                positive: *literal > 0,
+            })?;
+        }
+    }
+    Ok(clause)
+}
+
+fn formula(alloc: Global, vars: u32, clauses: &[&[i32]]) -> Result<Formula, OutOfMemory> {
+    let mut f = Formula::new(alloc, vars);
+    for literals in clauses {
+        let vars = f.vars();
+        f.push(clause(alloc, vars, literals)?)?;
+    }
+    Ok(f)
+}
+
+/// Four pigeons in three holes: variable 3 p + h + 1 says that pigeon p is in hole h.
+const PIGEONS: [&[i32]; 22] = [
+    &[1, 2, 3],
+    &[4, 5, 6],
+    &[7, 8, 9],
+    &[10, 11, 12],
+    &[-1, -4],
+    &[-1, -7],
+    &[-1, -10],
+    &[-4, -7],
+    &[-4, -10],
+    &[-7, -10],
+    &[-2, -5],
+    &[-2, -8],
+    &[-2, -11],
+    &[-5, -8],
+    &[-5, -11],
+    &[-8, -11],
+    &[-3, -6],
+    &[-3, -9],
+    &[-3, -12],
+    &[-6, -9],
+    &[-6, -12],
+    &[-9, -12],
+];
+
+const FORMULAS: [(u32, &[&[i32]], bool); 14] = [
+    (12, &PIGEONS, false),
+    // Two pigeons.
+    (
+        9,
+        &[&[1, 2, 3], &[4, 5, 6], &[-1, -4], &[-2, -5], &[-3, -6]],
+        true,
+    ),
+    // No clause, with and without variables, and an empty clause.
+    (0, &[], true),
+    (3, &[], true),
+    (0, &[&[]], false),
+    (2, &[&[1], &[]], false),
+    // One variable both ways.
+    (1, &[&[1]], true),
+    (1, &[&[-1]], true),
+    (1, &[&[1], &[-1]], false),
+    (1, &[&[1, -1]], true),
+    // A literal twice.
+    (1, &[&[1, 1], &[-1, -1]], false),
+    // Chains of implications.
+    (4, &[&[-1, 2], &[-2, 3], &[-3, 4], &[1], &[-4]], false),
+    (4, &[&[-1, 2], &[-2, 3], &[-3, 4], &[1]], true),
+    // All four clauses of two variables.
+    (2, &[&[1, 2], &[1, -2], &[-1, 2], &[-1, -2]], false),
+];
+
+#[test]
+fn decides(rt: HostRuntime) {
+    for (vars, clauses, satisfiable) in FORMULAS {
+        let f = formula(rt.alloc(), vars, clauses).expect(&rt, "memory");
+        match solve_plain(rt.alloc(), &f).expect(&rt, "memory") {
+            Outcome::Model(values) => {
+                assert!(rt; satisfiable);
+                assert!(rt; values.items().len() == f.vars() as usize);
+                assert!(rt; holds(&f, values.items()));
+            }
+            Outcome::Refuted(log) => {
+                assert!(rt; !satisfiable);
+                let mut marks = vec![in rt.alloc(); 0u8; f.vars() as usize].expect(&rt, "memory");
+                assert!(rt; marks.len() == f.vars() as usize);
+                assert!(rt; accepts(&f, &log, &mut marks));
+                // Read back, it is accepted again.
+                let text = write_log(rt.alloc(), &log).expect(&rt, "memory");
+                let again = read_log(rt.alloc(), text.as_str()).expect(&rt, "a log");
+                assert!(rt; accepts(&f, &again, &mut marks));
+            }
+        }
+    }
+}

@@ -1,0 +1,94 @@
+-- What a reader finds at the front of a text.
+use Rattle.std.specs.Prelude.{◌≡◌, ℕ, ◌+◌, ◌<◌, ◌^◌, true, cond, List, [], ◌∷◌, ◌++◌, length, Option, Some, None, Result, Ok, Err, codes, decimal}
+use Rattle.std.specs.Int.{IsInRange}
+use Rattle.std.specs.List.{flat_map, AllByRecursion}
+use Rattle.mon_cnf.specs.declared.clause.Lit.{Lit}
+use Rattle.mon_refute.specs.declared.lines.LogLine.{LogLine}
+use Rattle.mon_refute.specs.declared.number.Word.{Word}
+use Rattle.mon_refute.specs.declared.read.LogFault.{LogFault}
+use Rattle.mon_refute.specs.declared.read.LogFault.TheVariants.{BadLog, OutOfMemory}
+use Rattle.mon_refute.specs.Text.{FitsLine, line_text}
+
+-- no decimal digit comes next
+abbrev pub NoDigit : List ℕ → Type 0
+NoDigit [] = Unit {0}
+NoDigit (b ∷ bs) = IsInRange 48 57 b → ⊥
+
+-- the bytes are this text and then the rest, with which no number of the text goes on
+pub record Front (bytes text rest : List ℕ) : Type 0 where
+  pub is : bytes ≡ text ++ rest
+  pub ends : NoDigit rest
+
+-- the text of this item, which fits, stands at the front
+abbrev pub FoundAt : {X : Type 0} → (X → List ℕ) → (X → Type 0) → List ℕ → X → List ℕ → Type 0
+FoundAt text Fits bytes x rest = Fits x × Front bytes (text x) rest
+
+-- the text of no item that fits stands at the front
+abbrev pub NoneAt : {X : Type 0} → (X → List ℕ) → (X → Type 0) → List ℕ → Type 0
+NoneAt {X} text Fits bytes = (x : X) (rest : List ℕ) → FoundAt text Fits bytes x rest → ⊥
+
+abbrev pub FitsNumber : ℕ → Type 0
+FitsNumber n = n < 2 ^ 64
+
+-- digits, of which the first is 0 only where it is the only one
+abbrev pub IsPlain : List ℕ → Type 0
+IsPlain [] = ⊥
+IsPlain (d ∷ ds) = d ≡ 48 → ds ≡ []
+
+abbrev pub word_text : Word → List ℕ
+word_text w = 32 ∷ cond w.positive (decimal w.number) (45 ∷ decimal w.number)
+
+abbrev pub FitsWord : Word → Type 0
+FitsWord w = w.number < 2 ^ 64
+
+-- the word of a literal, and of the end of the literals
+abbrev pub literal_word : Option Lit → Word
+literal_word None = record { positive = true; number = 0 }
+literal_word (Some l) = record { positive = l.positive; number = l.var + 1 }
+
+abbrev pub hint_word : Option ℕ → Word
+hint_word None = record { positive = true; number = 0 }
+hint_word (Some h) = record { positive = true; number = h }
+
+abbrev pub FitsSome : {Y : Type 0} → (Y → Type 0) → Option Y → Type 0
+FitsSome Fits None = Unit {0}
+FitsSome Fits (Some y) = Fits y
+
+abbrev pub word_item : {Y : Type 0} → (Option Y → Word) → Option Y → List ℕ
+word_item word y = word_text (word y)
+
+-- the fault is BadLog only where this holds
+abbrev pub OnBad : LogFault → Type 0 → Type 0
+OnBad BadLog P = P
+OnBad OutOfMemory P = Unit {0}
+
+-- the line stands at the front
+pub record LineAt (bytes : List ℕ) (l : LogLine) (rest : List ℕ) : Type 0 where
+  pub is : bytes ≡ line_text l ++ rest
+  pub fits : FitsLine l
+
+abbrev pub NoLineAt : List ℕ → Type 0
+NoLineAt bytes = (l : LogLine) (rest : List ℕ) → LineAt bytes l rest → ⊥
+
+-- so many lines stand at the front
+pub record LinesAt (bytes : List ℕ) (count : ℕ) (log : List LogLine) (rest : List ℕ) : Type 0 where
+  pub is : bytes ≡ flat_map line_text log ++ rest
+  pub count_is : length log ≡ count
+  pub fit : AllByRecursion FitsLine log
+
+abbrev pub NoLinesAt : List ℕ → ℕ → Type 0
+NoLinesAt bytes count = (log : List LogLine) (rest : List ℕ) → LinesAt bytes count log rest → ⊥
+
+-- the first line of a log says this count
+pub record CountAt (bytes : List ℕ) (count : ℕ) (rest : List ℕ) : Type 0 where
+  pub is : bytes ≡ codes "log " ++ (decimal count ++ (10 ∷ rest))
+  pub fits : FitsNumber count
+
+abbrev pub NoCountAt : List ℕ → Type 0
+NoCountAt bytes = (count : ℕ) (rest : List ℕ) → CountAt bytes count rest → ⊥
+
+-- the log that was read, if memory sufficed
+abbrev pub Reads : Result (List LogLine) LogFault → List LogLine → Type 0
+Reads (Ok read) log = read ≡ log
+Reads (Err BadLog) log = ⊥
+Reads (Err OutOfMemory) log = Unit {0}

@@ -1,0 +1,199 @@
+//! Reading the text of a log.
+
+ghost use Rattle.std.specs.Prelude.{◌≡◌, ◌≢◌, ◌++◌, ℕ, ◌<◌, List, codes, Option, MatchOption, MatchResult, IfOk};
+ghost use Rattle.mon_refute.specs.Text.{literals_text, hints_text, FitsLiteral, FitsLiterals, FitsHint, FitsHints, Spells};
+ghost use Rattle.mon_refute.specs.Reading.{FoundAt, NoneAt, literal_word, hint_word, word_item, FitsSome, OnBad, LineAt, NoLineAt, LinesAt, NoLinesAt, CountAt, NoCountAt, Reads};
+ghost use Rattle.mon_refute.specs.declared.lines.LogLine.{LogLine};
+ghost use Rattle.mon_cnf.specs.declared.clause.Lit.{Lit};
+ghost use Rattle.mon_refute.specs.declared.read.LogFault.TheVariants.{OutOfMemory as MemoryFault};
+
+use crate::lines::{Hints, Log, LogLine};
+use crate::number::{Word, behind, number_at, word_at};
+use mon_cnf::{Clause, Lit};
+use mon_list::OutOfMemory;
+use std::alloc::Global;
+use thiserror::Error;
+
+/// Why a log could not be read.
+#[derive(Clone, Copy, Debug, PartialEq, Eq, Error)]
+pub enum LogFault {
+    /// The text is that of no log.
+    #[error("bad log")]
+    BadLog,
+    /// No memory was left.
+    #[error("out of memory")]
+    OutOfMemory,
+}
+
+impl From<OutOfMemory> for LogFault {
+    ghost from_gives = { λ _ e. e ≡ MemoryFault };
+
+    fn from(_: OutOfMemory) -> LogFault {
+        LogFault::OutOfMemory
+    }
+}
+
+/// The literal that the word stands for, or no literal for the 0 that ends them. Nothing where it stands for neither.
+fn literal_of(w: Word) -> Option<Option<Lit>>
+    ensures { MatchOption result ((x : Option Lit) → FitsSome FitsLiteral x → literal_word x ≢ w) (λ x. FitsSome FitsLiteral x × (literal_word x ≡ w)) }
+{
+    if w.number == 0 {
+        return if w.positive { Some(None) } else { None };
+    }
+    let var = w.number - 1;
+    if var > u64::from(u32::MAX) {
+        return None;
+    }
+    Some(Some(Lit {
+        var: var as u32,
+        positive: w.positive,
+    }))
+}
+
+/// The hint that the word stands for, or no hint for the 0 that ends them. Nothing where it stands for neither.
+fn hint_of(w: Word) -> Option<Option<u64>>
+    ensures { MatchOption result ((x : Option ℕ) → FitsSome FitsHint x → hint_word x ≢ w) (λ x. FitsSome FitsHint x × (hint_word x ≡ w)) }
+{
+    if !w.positive {
+        return None;
+    }
+    if w.number == 0 {
+        return Some(None);
+    }
+    Some(Some(w.number))
+}
+
+/// The literal at the front, or the end of the literals.
+fn literal_at(bytes: &[u8]) -> Option<(Option<Lit>, &[u8])>
+    ensures { MatchOption result (NoneAt (word_item literal_word) (FitsSome FitsLiteral) bytes.now) (λ x. FoundAt (word_item literal_word) (FitsSome FitsLiteral) bytes.now x.0 x.1.now) }
+{
+    let Some((w, rest)) = word_at(bytes) else {
+        return None;
+    };
+    match literal_of(w) {
+        None => None,
+        Some(literal) => Some((literal, rest)),
+    }
+}
+
+/// The hint at the front, or the end of the hints.
+fn hint_at(bytes: &[u8]) -> Option<(Option<u64>, &[u8])>
+    ensures { MatchOption result (NoneAt (word_item hint_word) (FitsSome FitsHint) bytes.now) (λ x. FoundAt (word_item hint_word) (FitsSome FitsHint) bytes.now x.0 x.1.now) }
+{
+    let Some((w, rest)) = word_at(bytes) else {
+        return None;
+    };
+    match hint_of(w) {
+        None => None,
+        Some(hint) => Some((hint, rest)),
+    }
+}
+
+/// The literals at the front and the 0 that ends them.
+fn literals_at(alloc: Global, bytes: &[u8]) -> Result<(Clause, &[u8]), LogFault>
+    ensures { MatchResult result (λ x. FoundAt literals_text FitsLiterals bytes.now x.0 x.1.now) (λ e. OnBad e (NoneAt literals_text FitsLiterals bytes.now)) }
+{
+    let mut clause = Clause::new(alloc);
+    let mut rest = bytes;
+    loop {
+        let Some((item, after)) = literal_at(rest) else {
+            return Err(LogFault::BadLog);
+        };
+        let Some(literal) = item else {
+            return Ok((clause, after));
+        };
+        clause.push(literal)?;
+        rest = after;
+    }
+}
+
+/// The hints at the front and the 0 that ends them.
+fn hints_at(alloc: Global, bytes: &[u8]) -> Result<(Hints, &[u8]), LogFault>
+    ensures { MatchResult result (λ x. FoundAt hints_text FitsHints bytes.now x.0 x.1.now) (λ e. OnBad e (NoneAt hints_text FitsHints bytes.now)) }
+{
+    let mut hints = Hints::new(alloc);
+    let mut rest = bytes;
+    loop {
+        let Some((item, after)) = hint_at(rest) else {
+            return Err(LogFault::BadLog);
+        };
+        let Some(hint) = item else {
+            return Ok((hints, after));
+        };
+        hints.push(hint)?;
+        rest = after;
+    }
+}
+
+/// The line at the front, with its line feed.
+fn line_at(alloc: Global, bytes: &[u8]) -> Result<(LogLine, &[u8]), LogFault>
+    ensures { MatchResult result (λ x. LineAt bytes.now x.0 x.1.now) (λ e. OnBad e (NoLineAt bytes.now)) }
+{
+    let Some(rest) = behind(bytes, b'l') else {
+        return Err(LogFault::BadLog);
+    };
+    let (literals, rest) = literals_at(alloc, rest)?;
+    let (hints, rest) = hints_at(alloc, rest)?;
+    match behind(rest, b'\n') {
+        None => Err(LogFault::BadLog),
+        Some(rest) => Ok((LogLine { literals, hints }, rest)),
+    }
+}
+
+/// So many lines at the front.
+fn lines_at(alloc: Global, count: u64, bytes: &[u8]) -> Result<(Log, &[u8]), LogFault>
+    ensures { MatchResult result (λ x. LinesAt bytes.now count x.0 x.1.now) (λ e. OnBad e (NoLinesAt bytes.now count)) }
+{
+    let mut log = Log::new(alloc);
+    let mut rest = bytes;
+    for _ in 0..count {
+        let (line, after) = line_at(alloc, rest)?;
+        log.push(line)?;
+        rest = after;
+    }
+    Ok((log, rest))
+}
+
+/// The bytes behind the first word of a log.
+fn behind_log(bytes: &[u8]) -> Option<&[u8]>
+    ensures { MatchOption result ((rest : List ℕ) → bytes.now ≢ codes "log " ++ rest) (λ rest. bytes.now ≡ codes "log " ++ rest.now) }
+{
+    bytes.strip_prefix(b"log ".as_slice())
+}
+
+/// The count in the first line of a log, and the bytes behind that line.
+fn count_at(bytes: &[u8]) -> Option<(u64, &[u8])>
+    ensures { MatchOption result (NoCountAt bytes.now) (λ x. CountAt bytes.now x.0 x.1.now) }
+{
+    let Some(number) = behind_log(bytes) else {
+        return None;
+    };
+    let Some((count, rest)) = number_at(number) else {
+        return None;
+    };
+    match behind(rest, b'\n') {
+        None => None,
+        Some(rest) => Some((count, rest)),
+    }
+}
+
+/// The log that the text is of. A text that is of no log is refused.
+///
+/// The text is a line `log L` and then L lines `l LITERALS 0 HINTS 0`, each ended by a line feed. Words are parted by
+/// one space, and numbers are decimal without leading zeros. A literal is the number of its variable plus one, from 1
+/// to 4294967296, with `-` before it where it is negative. L and hints are below 2^64, and a hint is at least 1.
+pub fn read_log(alloc: Global, text: &str) -> Result<Log, LogFault>
+    // What is read is spelled so.
+    ensures found { IfOk result (Spells text.now) }
+    // The text of a log is read as that log, unless memory runs out. So a text is bad only where it is of no log.
+    ensures only { (log : List LogLine) → Spells text.now log → Reads result log }
+{
+    let Some((count, rest)) = count_at(text.as_bytes()) else {
+        return Err(LogFault::BadLog);
+    };
+    let (log, rest) = lines_at(alloc, count, rest)?;
+    if !rest.is_empty() {
+        return Err(LogFault::BadLog);
+    }
+    Ok(log)
+}

@@ -1,0 +1,119 @@
+//! Worked logs and texts.
+
+ghost use Rattle.std.specs.Prelude.{OnOk, IfOk};
+ghost use Rattle.mon_cnf.specs.Truth.{Within};
+
+use super::*;
+use mon_cnf::{Clause, Formula, Lit};
+use std::alloc::Global;
+use std::test::*;
+
+/// The literals that are written as a variable's number plus one, negative where the literal is. Those of no variable
+/// are left out.
+fn clause(alloc: Global, vars: u32, literals: &[i32]) -> Result<Clause, OutOfMemory>
+    ensures { IfOk result (Within vars) }
+{
+    let mut clause = Clause::new(alloc);
+    for literal in literals {
+        let var = literal.unsigned_abs().saturating_sub(1);
+        if var < vars {
+            clause.push(Lit {
+                var,
+                positive: *literal > 0,
+            })?;
+        }
+    }
+    Ok(clause)
+}
+
+/// Two variables, and all four clauses of both.
+fn all_of_two(alloc: Global) -> Result<Formula, OutOfMemory> {
+    let mut f = Formula::new(alloc, 2);
+    for literals in [[1, 2], [1, -2], [-1, 2], [-1, -2]] {
+        let vars = f.vars();
+        f.push(clause(alloc, vars, &literals)?)?;
+    }
+    Ok(f)
+}
+
+const LOGS: [(&str, bool); 13] = [
+    ("log 2\nl 1 0 1 2 0\nl 0 5 3 4 0\n", true),
+    // A literal twice.
+    ("log 2\nl 1 1 0 1 2 0\nl 0 5 3 4 0\n", true),
+    // Hints behind the one that contradicts.
+    ("log 2\nl 1 0 1 2 9 0\nl 0 5 3 4 0\n", true),
+    // A hint less.
+    ("log 2\nl 1 0 1 0\nl 0 5 3 4 0\n", false),
+    ("log 2\nl 1 0 1 2 0\nl 0 5 3 0\n", false),
+    // A literal turned.
+    ("log 2\nl -1 0 1 2 0\nl 0 5 3 4 0\n", false),
+    // A line less, so that the last line names itself.
+    ("log 1\nl 0 5 3 4 0\n", false),
+    // No empty line, and no line.
+    ("log 1\nl 1 0 1 2 0\n", false),
+    ("log 0\n", false),
+    // A later line.
+    ("log 2\nl 1 0 6 0\nl 0 5 3 4 0\n", false),
+    // A literal of no variable, and one beside its opposite.
+    ("log 2\nl 1 3 0 1 2 0\nl 0 5 3 4 0\n", false),
+    ("log 2\nl 1 -1 0 1 2 0\nl 0 5 3 4 0\n", false),
+    // An empty line without hints.
+    ("log 1\nl 0 0\n", false),
+];
+
+#[test]
+fn accepts_logs(rt: HostRuntime) {
+    let f = all_of_two(rt.alloc()).expect(&rt, "memory");
+    let mut marks = [7u8, 1];
+    for (text, accepted) in LOGS {
+        let log = read_log(rt.alloc(), text).expect(&rt, "a log");
+        assert!(rt; f.vars() as usize == marks.len());
+        assert!(rt; accepts(&f, &log, &mut marks) == accepted, "{text}");
+        assert_eq!(rt;
+            write_log(rt.alloc(), &log).expect(&rt, "memory").as_str(),
+            text
+        );
+    }
+}
+
+const BAD: [&str; 22] = [
+    "",
+    "log",
+    "log 0",
+    "log 00\n",
+    "log -0\n",
+    "log 1\n",
+    "log 0\n\n",
+    "log 0\nl 0 0\n",
+    "Log 0\n",
+    "log  0\n",
+    "log 18446744073709551616\n",
+    "log 1\nl 0 3 0",
+    "log 1\nl 0 3  0\n",
+    "log 1\nl 0 3 0 \n",
+    "log 1\nl  0 3 0\n",
+    "log 1\nl 0 3\n",
+    "log 1\nl -0 0 0\n",
+    "log 1\nl 01 0 3 0\n",
+    "log 1\nl +1 0 3 0\n",
+    "log 1\nl 4294967297 0 3 0\n",
+    "log 1\nl 0 -3 0\n",
+    "log 1\nl 0 18446744073709551616 0\n",
+];
+
+#[test]
+fn reads_texts(rt: HostRuntime) {
+    for text in BAD {
+        assert!(rt;
+            matches!(read_log(rt.alloc(), text), Err(LogFault::BadLog)),
+            "{text}"
+        );
+    }
+    let text = "log 2\nl 4294967296 -4294967296 0 18446744073709551615 1 0\nl 0 3 0\n";
+    let log = read_log(rt.alloc(), text).expect(&rt, "a log");
+    assert_eq!(rt; log.items().len(), 2);
+    assert_eq!(rt;
+        write_log(rt.alloc(), &log).expect(&rt, "memory").as_str(),
+        text
+    );
+}
