@@ -91,12 +91,7 @@ fn part_frame(alloc: Global, m: &FlowMod, e: &Edit, first: bool) -> Result<Frame
 /// The frame in which an edit of the message goes to the switch. An ADD goes on as it came. Every other edit is one
 /// frame with the message's xid, cookie, flags and timeouts, for the edit's entry alone: MODIFY_STRICT, DELETE_STRICT,
 /// or ADD where the message acts as one. The first frame of a message bears its buffer, the others none.
-pub fn frame_of(
-    alloc: Global,
-    m: &FlowMod,
-    e: &Edit,
-    first: bool,
-) -> Result<Frame, OutOfMemory>
+pub fn frame_of(alloc: Global, m: &FlowMod, e: &Edit, first: bool) -> Result<Frame, OutOfMemory>
     requires calm { is_emergency m.now ≡ false }
     requires kind { is_cut e.now ≡ is_deletion m.now.command }
     ensures { IfOk result (λ frame. frame ≡ frame_for m.now e.now first) }

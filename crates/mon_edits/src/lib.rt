@@ -16,10 +16,13 @@ mod laws;
 mod naming;
 mod plan;
 mod refusal;
+#[cfg(test)]
+mod tests;
 
 pub use frame::frame_of;
-
-pub use laws::{a_deletion_leaves_what_it_does_not_take, an_add_puts_its_rule, edits_suit_the_command};
+pub use laws::{
+    a_deletion_leaves_what_it_does_not_take, an_add_puts_its_rule, edits_suit_the_command,
+};
 pub use mon_list::OutOfMemory;
 pub use mon_table::Edit;
 pub use naming::{is_deletion, is_emergency};

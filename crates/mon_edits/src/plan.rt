@@ -46,7 +46,11 @@ fn changed(alloc: Global, m: &FlowMod, entry: &Rule) -> Result<Edit, OutOfMemory
 }
 
 /// The message's actions put into each entry that its match covers.
-fn changed_where_covered(alloc: Global, table: &Table, m: &FlowMod) -> Result<Vec<Edit>, OutOfMemory>
+fn changed_where_covered(
+    alloc: Global,
+    table: &Table,
+    m: &FlowMod,
+) -> Result<Vec<Edit>, OutOfMemory>
     ensures { IfOk result (λ edits. edits.items ≡ map (changed m.now) (covered table.now m.now)) }
 {
     let mut edits = Vec::new(alloc);
@@ -96,10 +100,7 @@ fn is_output(port: u16, action: &Action) -> bool
 fn has_output(port: u16, actions: &Actions) -> bool
     ensures { result ≡ has_output port actions.now }
 {
-    actions
-        .items()
-        .iter()
-        .any(|action| is_output(port, action))
+    actions.items().iter().any(|action| is_output(port, action))
 }
 
 /// Whether the deletion takes an entry that it names.
