@@ -4,7 +4,7 @@ use Rattle.std.specs.Prelude.{nat_lt}
 use Rattle.std.specs.List.{find, position, position_or_len, slice_get}
 use Rattle.std.proofs.lemmas.Bool.{ltb-true, ltb-false}
 use Rattle.std.proofs.lemmas.List.Folds.{find_at}
-use Rattle.std.proofs.lemmas.Option.{slice_get_read, slice_get_past, slice_get_cases, cond_some}
+use Rattle.std.proofs.lemmas.Option.{slice_get_read, slice_get_past, cond_some}
 use Rattle.mon_table.specs.declared.rule.Rule.{Rule}
 
 -- the rule at the first place that passes is the first that does

@@ -1,24 +1,23 @@
 -- Tables after the edits of a message, by their members.
-use Rattle.std.proofs.Common.{◌≡◌, ◌↔◌, ◌⊎◌, Bool, true, false, cond, List, [], ◌∷◌, map, Some, None, refl, sym, ap, subst, ◌∙◌, inl, inr, ⊎_elim}
+use Rattle.std.proofs.Common.{◌≡◌, ◌↔◌, true, false, cond, List, [], ◌∷◌, map, Some, refl, sym, subst, ◌∙◌, inl, inr, ⊎_elim}
 use Rattle.std.specs.List.{filter, AllByRecursion}
 use Rattle.std.specs.Option.{option_to_list}
 use Rattle.std.proofs.lemmas.Bool.{false≢true, false_from_ne_true}
-use Rattle.mon_header.specs.Matching.{Matching}
 use Rattle.mon_table.specs.declared.rule.Rule.{Rule}
 use Rattle.mon_table.specs.declared.edit.Edit.{Edit}
-use Rattle.mon_table.specs.declared.edit.Edit.TheVariants.{Put, Cut}
+use Rattle.mon_table.specs.declared.edit.Edit.TheVariants.{Cut}
 use Rattle.mon_table.specs.Rules.{Identity, identity_of, same_identity}
 use Rattle.mon_table.specs.Tables.{Has, InOrder, rule_of, is_named}
 use Rattle.mon_table.specs.Edits.{after}
 use Rattle.mon_table.proofs.Identities.{same-self}
-use Rattle.mon_table.proofs.Members.{has-filter, filter-has, after-members, members-after, members-law, one-rule}
+use Rattle.mon_table.proofs.Members.{has-filter, filter-has, after-members, members-after, one-rule}
 use Rattle.of_msgs.specs.declared.command.Command.{Command}
 use Rattle.of_msgs.specs.declared.command.Command.TheVariants.{Add, Modify, ModifyStrict, Delete, DeleteStrict}
 use Rattle.of_msgs.specs.declared.flow_mod.FlowMod.{FlowMod}
-use Rattle.mon_edits.specs.Naming.{is_add, is_deletion, at_identity, named_by, named}
-use Rattle.mon_edits.specs.Edits.{rule_in, changed, or_added, is_taken, taken, added, edits_by, edits_of}
+use Rattle.mon_edits.specs.Naming.{is_deletion, named_by, named}
+use Rattle.mon_edits.specs.Edits.{changed, or_added, is_taken, taken, edits_by, edits_of}
 use Rattle.mon_edits.specs.Frames.{is_cut}
-use Rattle.mon_edits.specs.Laws.{after_all, IsOther, IsTaken}
+use Rattle.mon_edits.specs.Laws.{after_all, IsTaken}
 
 -- each edit takes an entry out, or none does
 all-cut : (rs : List Rule) → AllByRecursion (λ e. is_cut e ≡ true) (map taken rs)
@@ -43,18 +42,6 @@ suits DeleteStrict t m = all-cut (filter (is_taken m) (named t m))
 pub suits-law : (t : List Rule) (m : FlowMod) → AllByRecursion (λ e. is_cut e ≡ is_deletion m.command) (edits_of t m)
 suits-law t m = suits m.command t m
 
--- an ADD
-put-one : (c : Command) (t : List Rule) (m : FlowMod) → is_add c ≡ true → edits_by c t m ≡ added t m ∷ []
-put-one Add t m e = refl
-put-one Modify t m e = absurd (false≢true e)
-put-one ModifyStrict t m e = absurd (false≢true e)
-put-one Delete t m e = absurd (false≢true e)
-put-one DeleteStrict t m e = absurd (false≢true e)
-
-pub add-law : (t : List Rule) (m : FlowMod) (r : Rule) → is_add m.command ≡ true → Has (after_all t (edits_of t m)) r ↔ ((r ≡ rule_in m) ⊎ IsOther t m r)
-add-law t m r e =
-    subst (λ (xs : List Edit). Has (after_all t xs) r ↔ ((r ≡ rule_in m) ⊎ IsOther t m r)) (sym (put-one m.command t m e)) (members-law t (added t m) r)
-
 -- a deletion
 cut-each : (c : Command) (t : List Rule) (m : FlowMod) → is_deletion c ≡ true → edits_by c t m ≡ map taken (filter (is_taken m) (named t m))
 cut-each Add t m e = absurd (false≢true e)
@@ -72,7 +59,7 @@ has-found i (s ∷ t) r h =
       | false ↦ λ k. inr (has-found i t r k)
     ] h
 
-has-named : (c : Command) (t : List Rule) (m : FlowMod) (r : Rule) → Has (named_by c t m) r → Has t r
+pub has-named : (c : Command) (t : List Rule) (m : FlowMod) (r : Rule) → Has (named_by c t m) r → Has t r
 has-named Add t m r h = has-found _ t r h
 has-named Modify t m r h = (has-filter (is_named m.matching) t r h).0
 has-named ModifyStrict t m r h = has-found _ t r h
@@ -80,8 +67,16 @@ has-named Delete t m r h = (has-filter (is_named m.matching) t r h).0
 has-named DeleteStrict t m r h = has-found _ t r h
 
 -- the rule is of another identity than those of the list
-abbrev AllOther : List Rule → Rule → Type 0
+abbrev pub AllOther : List Rule → Rule → Type 0
 AllOther rs r = (s : Rule) → Has rs s → same_identity (identity_of r) (identity_of s) ≡ false
+
+-- a rule of the table that is not in a list of its rules is of another identity than all of them, and the other way round
+pub other-each : (t rs : List Rule) (r : Rule) → InOrder t → Has t r → ((s : Rule) → Has rs s → Has t s) → (Has rs r → ⊥) → AllOther rs r
+other-each t rs r o h inside out s i =
+    false_from_ne_true _ (λ same. out (subst (Has rs) (sym (one-rule t r s o h (inside s i) same)) i))
+
+pub none-other : (rs : List Rule) (r : Rule) → AllOther rs r → Has rs r → ⊥
+none-other rs r other i = false≢true (sym (other r i) ∙ same-self (identity_of r))
 
 cuts-there : (rs t : List Rule) (r : Rule) → Has (after_all t (map taken rs)) r → Has t r × AllOther rs r
 cuts-there [] t r h = (h, λ s i. absurd i)
@@ -100,13 +95,14 @@ cuts-back (x ∷ rs) t r h other =
 deletion-there : (t : List Rule) (m : FlowMod) (r : Rule) → Has (after_all t (map taken (filter (is_taken m) (named t m)))) r → Has t r × (IsTaken t m r → ⊥)
 deletion-there t m r h =
     let g = cuts-there (filter (is_taken m) (named t m)) t r h in
-    (g.0, λ k. false≢true (sym (g.1 r (filter-has (is_taken m) (named t m) r k.0 k.1)) ∙ same-self (identity_of r)))
+    (g.0, λ k. none-other (filter (is_taken m) (named t m)) r g.1 (filter-has (is_taken m) (named t m) r k.0 k.1))
 
 deletion-back : (t : List Rule) (m : FlowMod) (r : Rule) → InOrder t → Has t r → (IsTaken t m r → ⊥) → Has (after_all t (map taken (filter (is_taken m) (named t m)))) r
 deletion-back t m r o h stays =
     cuts-back (filter (is_taken m) (named t m)) t r h
-    (λ s i. let f = has-filter (is_taken m) (named t m) s i in
-    false_from_ne_true _ (λ same. stays (subst (λ (y : Rule). IsTaken t m y) (sym (one-rule t r s o h (has-named m.command t m s f.0) same)) f)))
+    (other-each t (filter (is_taken m) (named t m)) r o h
+    (λ s i. has-named m.command t m s (has-filter (is_taken m) (named t m) s i).0)
+    (λ i. stays (has-filter (is_taken m) (named t m) r i)))
 
 pub deletion-law : (t : List Rule) (m : FlowMod) (r : Rule) → InOrder t → is_deletion m.command ≡ true → Has (after_all t (edits_of t m)) r ↔ (Has t r × (IsTaken t m r → ⊥))
 deletion-law t m r o e =

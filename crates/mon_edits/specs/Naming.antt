@@ -1,5 +1,5 @@
 -- What a FLOW_MOD names, and when it adds an entry (OpenFlow 1.0.0, modify flow entry message).
-use Rattle.std.specs.Prelude.{ℕ, Bool, true, false, not, ◌&&◌, ◌||◌, List, [], ◌∷◌}
+use Rattle.std.specs.Prelude.{Bool, true, false, not, ◌&&◌, List, [], ◌∷◌}
 use Rattle.std.specs.List.{filter}
 use Rattle.std.specs.Option.{option_to_list}
 use Rattle.mon_header.specs.Wild.{bit}

@@ -1,4 +1,4 @@
-use Rattle.mon_edits.proofs.Members.{add-law}
+use Rattle.mon_edits.proofs.Changing.{add-law}
 use Rattle.mon_edits.proofs.laws.an_add_puts_its_rule.Goals as goal
 
 pub returns : goal.returns
