@@ -1,0 +1,5 @@
+mod Listing
+mod Parts
+mod Members
+mod Changing
+mod Righting

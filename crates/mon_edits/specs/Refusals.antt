@@ -1,0 +1,65 @@
+-- For what a FLOW_MOD is refused, over the table of the controller's entries.
+use Rattle.std.specs.Prelude.{◌≡◌, ◌⊎◌, ℕ, ◌+◌, Bool, not, ◌==◌, nat_lt, nat_le, ◌&&◌, ◌||◌, if◌then◌else◌, List, length, Option, Some, None, Result, Ok, Err}
+use Rattle.std.specs.List.{list_any}
+use Rattle.mon_header.specs.Matching.{effective, overlaps}
+use Rattle.mon_table.specs.declared.rule.Rule.{Rule}
+use Rattle.mon_table.specs.declared.edit.Edit.{Edit}
+use Rattle.mon_table.specs.Rules.{rank}
+use Rattle.of_msgs.specs.declared.flow_mod.FlowMod.{FlowMod}
+use Rattle.mon_edits.specs.declared.refusal.ModRefusal.{ModRefusal}
+use Rattle.mon_edits.specs.declared.refusal.ModRefusal.TheVariants.{TooManyActions, Timeouts, Reserved, OverlapFlag, TableFull, OutOfMemory}
+use Rattle.mon_edits.specs.Naming.{checks_overlap, is_add, is_strict, is_deletion, adds_entry}
+
+-- no deletion, and more than 512 bytes of actions
+abbrev pub has_too_many_actions : FlowMod → Bool
+has_too_many_actions m = not (is_deletion m.command) && nat_lt 512 (length m.raw)
+
+-- no deletion, and the entry would go by itself
+abbrev pub has_timeouts : FlowMod → Bool
+has_timeouts m = not (is_deletion m.command) && (not (m.idle == 0) || not (m.hard == 0))
+
+-- a catching entry overlaps
+abbrev pub is_caught : List Rule → FlowMod → Bool
+is_caught catching m = list_any (λ c. overlaps m.matching c.matching) catching
+
+-- the entry has the message's effective priority, and overlaps
+abbrev pub rivals : FlowMod → Rule → Bool
+rivals m r = (rank r == effective m.matching m.priority) && overlaps m.matching r.matching
+
+-- some entry does, one of an equal match too
+abbrev pub has_rival : List Rule → FlowMod → Bool
+has_rival t m = list_any (rivals m) t
+
+-- an ADD, a strict command, or a MODIFY that adds an entry, at the priority of a catching entry or above, and where one catches
+abbrev pub is_reserved : Bool → List Rule → FlowMod → Bool
+is_reserved adds catching m =
+    (is_add m.command || (is_strict m.command || adds))
+    && (nat_le 65534 (effective m.matching m.priority) && is_caught catching m)
+
+-- an ADD, or a MODIFY that adds an entry, that asks to look for an overlap, where there is one
+abbrev pub is_overlapping : Bool → List Rule → FlowMod → Bool
+is_overlapping adds t m =
+    checks_overlap m && ((is_add m.command || adds) && has_rival t m)
+
+-- an entry would be added to 4096, unsettled cuts counted
+abbrev pub is_full : Bool → List Rule → ℕ → Bool
+is_full adds t cuts = adds && nat_le 4096 (length t + cuts)
+
+-- the first refusal that applies; `adds` says whether the message adds an entry
+abbrev pub first_of : Bool → List Rule → List Rule → ℕ → FlowMod → Option ModRefusal
+first_of adds t catching cuts m =
+    if has_too_many_actions m then Some TooManyActions
+    else (if has_timeouts m then Some Timeouts
+    else (if is_reserved adds catching m then Some Reserved
+    else (if is_overlapping adds t m then Some OverlapFlag
+    else (if is_full adds t cuts then Some TableFull
+    else None))))
+
+-- the refusal of a message over the controller's entries, the catching table, and the number of unsettled cuts
+abbrev pub refusal : List Rule → List Rule → ℕ → FlowMod → Option ModRefusal
+refusal t catching cuts m = first_of (adds_entry t m) t catching cuts m
+
+-- the answer is the refusal, if there is one, and else the edits, unless memory ran out
+abbrev pub Plans : Option ModRefusal → List Edit → Result (List Edit) ModRefusal → Type 0
+Plans refused edits (Ok answer) = (refused ≡ None) × (answer ≡ edits)
+Plans refused edits (Err answer) = (answer ≡ OutOfMemory) ⊎ (refused ≡ Some answer)

@@ -1,0 +1,103 @@
+//! From an edit to the frame in which it passes.
+
+ghost use Rattle.std.specs.Prelude.{◌≡◌, false, IfOk};
+ghost use Rattle.of_match.specs.Layout.{match_of, spelled};
+ghost use Rattle.mon_edits.specs.Naming.{is_emergency, is_deletion};
+ghost use Rattle.mon_edits.specs.Frames.{is_cut, command_for, raw_for, actions_for, part_for, frame_for, IsPart};
+
+use crate::naming::is_add;
+use mon_header::{Actions, Match};
+use mon_list::OutOfMemory;
+use mon_table::Edit;
+use of_frame::Frame;
+use of_match::{write_match, written_is_read};
+use of_msgs::{Command, FlowMod, NO_BUFFER, RawActions, ports, write_flow_mod};
+use std::alloc::Global;
+
+/// The command that does the edit, and touches no other entry.
+fn command_for(e: &Edit) -> Command
+    ensures { result ≡ command_for e.now }
+{
+    match e {
+        Edit::Put { old: None, .. } => Command::Add,
+        Edit::Put { old: Some(_), .. } => Command::ModifyStrict,
+        Edit::Cut { .. } => Command::DeleteStrict,
+    }
+}
+
+/// The bytes of the message's actions; a deletion has none.
+fn raw_for(alloc: Global, m: &FlowMod, e: &Edit) -> Result<RawActions, OutOfMemory>
+    ensures { IfOk result (λ raw. raw ≡ raw_for m.now e.now) }
+{
+    match e {
+        Edit::Put { .. } => Ok(RawActions::of(Vec::from_slice(alloc, m.raw.items())?)),
+        Edit::Cut { .. } => Ok(RawActions::new(alloc)),
+    }
+}
+
+/// What those bytes mean.
+fn actions_for(alloc: Global, m: &FlowMod, e: &Edit) -> Result<Actions, OutOfMemory>
+    ensures { IfOk result (λ actions. actions ≡ actions_for m.now e.now) }
+{
+    match e {
+        Edit::Put { .. } => m.actions.copied(alloc),
+        Edit::Cut { .. } => Ok(Actions::new(alloc)),
+    }
+}
+
+/// The bytes of a match, which mean it again.
+fn spelled(m: &Match) -> [u8; 40]
+    ensures value { result ≡ spelled m.now }
+    ensures read_back { m.now ≡ match_of result }
+{
+    // Only a look at the match shows that it is in its normalised form.
+    let _ = m.wild();
+    written_is_read();
+    write_match(m)
+}
+
+/// The message of one edit.
+fn part_of(alloc: Global, m: &FlowMod, e: &Edit, first: bool) -> Result<FlowMod, OutOfMemory>
+    ensures { IfOk result (λ part. IsPart m.now e.now first part) }
+{
+    let entry = e.rule();
+    let actions = actions_for(alloc, m, e)?;
+    let raw = raw_for(alloc, m, e)?;
+    Ok(FlowMod {
+        xid: m.xid,
+        spelled: spelled(&entry.matching),
+        matching: entry.matching,
+        cookie: m.cookie,
+        command: command_for(e),
+        idle: m.idle,
+        hard: m.hard,
+        priority: entry.priority,
+        buffer: if first { m.buffer } else { NO_BUFFER },
+        out_port: ports::NONE,
+        flags: m.flags,
+        actions,
+        raw,
+    })
+}
+
+/// The frame of that message.
+fn part_frame(alloc: Global, m: &FlowMod, e: &Edit, first: bool) -> Result<Frame, OutOfMemory>
+    ensures { IfOk result (λ frame. frame ≡ part_for m.now e.now first) }
+{
+    let part = part_of(alloc, m, e, first)?;
+    write_flow_mod(alloc, &part)
+}
+
+/// The frame in which an edit of the message goes to the switch. An ADD goes on as it came. Every other edit is one
+/// frame with the message's xid, cookie, flags and timeouts, for the edit's entry alone: MODIFY_STRICT, DELETE_STRICT,
+/// or ADD where the message acts as one. The first frame of a message bears its buffer, the others none.
+pub fn frame_of(alloc: Global, m: &FlowMod, e: &Edit, first: bool) -> Result<Frame, OutOfMemory>
+    requires calm { is_emergency m.now ≡ false }
+    requires kind { is_cut e.now ≡ is_deletion m.now.command }
+    ensures { IfOk result (λ frame. frame ≡ frame_for m.now e.now first) }
+{
+    if is_add(m.command) {
+        return write_flow_mod(alloc, m);
+    }
+    part_frame(alloc, m, e, first)
+}
