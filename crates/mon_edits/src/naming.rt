@@ -69,8 +69,8 @@ pub(crate) fn entry<'a>(table: &'a Table, m: &FlowMod) -> Option<&'a Rule>
 fn covers_none(table: &Table, m: &FlowMod) -> bool
     ensures { result ≡ is_none (covered table.now m.now) }
 {
-    for rule in table.rules() {
-        if covers(&m.matching, &rule.matching) {
+    for place in 0..table.len() {
+        if covers(&m.matching, &table.rule(place).matching) {
             return false;
         }
     }

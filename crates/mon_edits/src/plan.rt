@@ -54,7 +54,8 @@ fn changed_where_covered(
     ensures { IfOk result (λ edits. edits.items ≡ map (changed m.now) (covered table.now m.now)) }
 {
     let mut edits = Vec::new(alloc);
-    for entry in table.rules() {
+    for place in 0..table.len() {
+        let entry = table.rule(place);
         if covers(&m.matching, &entry.matching) {
             edits.push(changed(alloc, m, entry)?)?;
         }
@@ -115,7 +116,8 @@ fn taken_where_covered(alloc: Global, table: &Table, m: &FlowMod) -> Result<Vec<
     ensures { IfOk result (λ edits. edits.items ≡ map taken (filter (is_taken m.now) (covered table.now m.now))) }
 {
     let mut edits = Vec::new(alloc);
-    for entry in table.rules() {
+    for place in 0..table.len() {
+        let entry = table.rule(place);
         if !covers(&m.matching, &entry.matching) {
             continue;
         }

@@ -72,10 +72,12 @@ fn has_timeouts(m: &FlowMod) -> bool
 fn is_caught(catching: &Table, m: &FlowMod) -> bool
     ensures { result ≡ is_caught catching.now m.now }
 {
-    catching
-        .rules()
-        .iter()
-        .any(|entry| overlaps(&m.matching, &entry.matching))
+    for place in 0..catching.len() {
+        if overlaps(&m.matching, &catching.rule(place).matching) {
+            return true;
+        }
+    }
+    false
 }
 
 /// Whether it would reach a catching entry.
@@ -99,7 +101,12 @@ fn rivals(m: &FlowMod, entry: &Rule) -> bool
 fn has_rival(table: &Table, m: &FlowMod) -> bool
     ensures { result ≡ has_rival table.now m.now }
 {
-    table.rules().iter().any(|entry| rivals(m, entry))
+    for place in 0..table.len() {
+        if rivals(m, table.rule(place)) {
+            return true;
+        }
+    }
+    false
 }
 
 /// Whether it asks to look for an overlap, and there is one.

@@ -51,15 +51,6 @@ impl Table {
         self.rules.len() as u32
     }
 
-    /// The rules, in table order.
-    pub fn rules(&self) -> &[Rule]
-        ensures value { result.now ≡ self.now }
-        ensures table { IsTable self.now }
-        ensures few { length self.now < 2 ^ 32 }
-    {
-        &self.rules
-    }
-
     /// The rule at a place, counted from 0 in table order.
     pub fn rule(&self, place: u32) -> &Rule
         requires { place < length self.now }
