@@ -5,6 +5,7 @@ use mon_list::Items;
 /// A variable, by its number from 0 on, or its negation.
 #[derive(Clone, Copy, Debug, PartialEq, Eq)]
 pub struct Lit {
+    /// The number of the variable.
     pub var: u32,
     /// Whether the literal is the variable itself, and not its negation.
     pub positive: bool,

@@ -113,9 +113,9 @@ impl Progress {
         }
     }
 
-    /// The trail has so many entries left.
+    /// The trail has so many entries left, and the next one is new.
     pub fn cut(&mut self, len: usize) {
-        if len < self.entry {
+        if len <= self.entry {
             self.entry = len;
             self.occurrence = 0;
         }

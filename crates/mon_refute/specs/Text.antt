@@ -1,11 +1,11 @@
--- The text of a log: a line 'log L', and then a line 'l LITERALS 0 HINTS 0' for each of its L lines. Words are parted by
--- one space, numbers are decimal without leading zeros, and each line ends with a line feed.
+-- How a log is spelled: 'log' and how many lines there are, and then line by line 'l', the literals, 0, the hints and 0.
+-- A space stands before each further word of a line, and a line feed behind the last one.
 use Rattle.std.specs.Prelude.{◌≡◌, ℕ, ◌+◌, ◌<◌, ◌^◌, cond, List, [], ◌∷◌, ◌++◌, length, codes, decimal}
 use Rattle.std.specs.List.{flat_map, AllByRecursion}
 use Rattle.mon_cnf.specs.declared.clause.Lit.{Lit}
 use Rattle.mon_refute.specs.declared.lines.LogLine.{LogLine}
 
--- a literal is its variable's number plus one, with a '-' before it where it is negative
+-- variables are counted from 1 here, and a '-' says that the literal is the negation
 abbrev pub literal_text : Lit → List ℕ
 literal_text l = 32 ∷ cond l.positive (decimal (l.var + 1)) (45 ∷ decimal (l.var + 1))
 
@@ -30,7 +30,7 @@ line_text l = 108 ∷ (literals_text l.literals ++ (hints_text l.hints ++ (10 �
 abbrev pub log_text : List LogLine → List ℕ
 log_text log = codes "log " ++ (decimal (length log) ++ (10 ∷ flat_map line_text log))
 
--- numbers that a log may have: literals of 1 to 2 ^ 32, hints of 1 to 2 ^ 64 - 1
+-- what the types of a log's numbers allow, and no hint is 0
 abbrev pub FitsLiteral : Lit → Type 0
 FitsLiteral l = l.var < 2 ^ 32
 

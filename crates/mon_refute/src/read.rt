@@ -179,9 +179,10 @@ fn count_at(bytes: &[u8]) -> Option<(u64, &[u8])>
 
 /// The log that the text is of. A text that is of no log is refused.
 ///
-/// The text is a line `log L` and then L lines `l LITERALS 0 HINTS 0`, each ended by a line feed. Words are parted by
-/// one space, and numbers are decimal without leading zeros. A literal is the number of its variable plus one, from 1
-/// to 4294967296, with `-` before it where it is negative. L and hints are below 2^64, and a hint is at least 1.
+/// A log is spelled by a line `log L`, where L is how many lines it has, and then line by line by `l`, the literals, `0`,
+/// the hints and `0`, with a single space between two words. A line feed ends each line, the last one too. The first
+/// variable is written `1` and its negation `-1`, and so on to `4294967296`. No number has a leading zero, L and the
+/// hints are below 2^64, and no hint is 0.
 pub fn read_log(alloc: Global, text: &str) -> Result<Log, LogFault>
     // What is read is spelled so.
     ensures found { IfOk result (Spells text.now) }
