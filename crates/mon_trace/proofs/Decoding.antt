@@ -72,7 +72,7 @@ digits_at text head frame start size says start_is size_is =
     take-append-le (2 * size) (hex frame) (10 ∷ []) (omega (arith, hex-length frame, size_is)) ∙ take_all (2 * size) (hex frame) (omega (arith, hex-length frame, size_is)) in
     ap (λ (xs : List ℕ). bytes_of (unhex (take (2 * size) xs))) cut ∙ ap (λ (xs : List ℕ). bytes_of (unhex xs)) digits ∙ ap bytes_of says
 
-pub frame_placed : (before number session : ℕ) (to : Side) (frame : List ℕ) (start size : ℕ) → unhex (hex frame) ≡ Some frame → start ≡ before + length (put_head number session to) → size ≡ length frame → IsPlaceIn before (put_line number session to frame) number (Send session to frame) (Frame number session to start size)
+pub frame_placed : (before number session : ℕ) (to : Side) (frame : List ℕ) (start size : ℕ) → unhex (hex frame) ≡ Some frame → start ≡ before + length (put_head number session to) → size ≡ length frame → IsPlaceIn before (put_line number session to frame) number (Send session to frame) (Frame to size number session start)
 frame_placed before number session to frame start size says start_is size_is text text_is =
     let head = put_head number session to in
     let is : frame_at (text ++ put_line number session to frame) start size ≡ frame = digits_at text head frame start size says (start_is ∙ ap (λ (n : ℕ). n + length head) (sym text_is)) size_is in (
@@ -86,7 +86,7 @@ closing_placed before number session line text text_is = (refl, tt)
 -- text behind that which is there changes no output
 output_stays : (text more : List ℕ) (place : Output) → IsIn (length text) place → output_of (text ++ more) place ≡ output_of text place
 output_stays text more (Closing number session) is = refl
-output_stays text more (Frame number session to start size) is =
+output_stays text more (Frame to size number session start) is =
     let cut : drop start (text ++ more) ≡ drop start text ++ more = drop-append-le start text more (omega (arith, is)) in
     let room : 2 * size ≤ length (drop start text) = omega (arith, is, length-drop start text) in
     let digits : take (2 * size) (drop start (text ++ more)) ≡ take (2 * size) (drop start text) = ap (take (2 * size)) cut ∙ take-append-le (2 * size) (drop start text) more room in
@@ -100,7 +100,7 @@ outputs_stay text more (place ∷ places) all =
 
 in_more : (total more : ℕ) (place : Output) → IsIn total place → total ≤ more → IsIn more place
 in_more total more (Closing number session) is le = tt
-in_more total more (Frame number session to start size) is le = omega (arith, is, le)
+in_more total more (Frame to size number session start) is le = omega (arith, is, le)
 
 all_in-more : (total more : ℕ) (places : List Output) → AllIn total places → total ≤ more → AllIn more places
 all_in-more total more [] all le = tt

@@ -36,7 +36,7 @@ within_at total (first ∷ places) (suc n) place all within = within_at total pl
 
 within_more : (total more : ℕ) (place : Place) → IsWithin total place → total ≤ more → IsWithin more place
 within_more total more Opening is le = tt
-within_more total more (Bytes side start size) is le = (is.0, is.1, omega (arith, is.2, le))
+within_more total more (Bytes side size start) is le = (is.0, is.1, omega (arith, is.2, le))
 
 pub all_within-more : (total more : ℕ) (places : List Place) → AllWithin total places → total ≤ more → AllWithin more places
 all_within-more total more [] all le = tt
@@ -49,7 +49,7 @@ all_within-append total (place ∷ places) more all rest = (all.0, all_within-ap
 -- bytes behind those that are there change no event
 event_stays : (bytes more : List ℕ) (place : Place) → IsWithin (length bytes) place → event_of (bytes ++ more) place ≡ event_of bytes place
 event_stays bytes more Opening is = refl
-event_stays bytes more (Bytes side start size) is =
+event_stays bytes more (Bytes side size start) is =
     let cut : drop start (bytes ++ more) ≡ drop start bytes ++ more = drop-append-le start bytes more (omega (arith, is.2)) in
     let room : size ≤ length (drop start bytes) = omega (arith, is.2, length-drop start bytes) in
     ap (λ (xs : List ℕ). Piece 0 side (take size xs)) cut ∙ ap (λ (xs : List ℕ). Piece 0 side xs) (take-append-le size (drop start bytes) more room)
@@ -61,7 +61,7 @@ events_stay bytes more (place ∷ places) all =
     ∙ ap (λ (es : List Event). event_of bytes place ∷ es) (events_stay bytes more places all.1)
 
 -- the bytes that come last are those of the last piece
-last_event : (bytes more : List ℕ) (side : Side) → event_of (bytes ++ more) (Bytes side (length bytes) (length more)) ≡ Piece 0 side more
+last_event : (bytes more : List ℕ) (side : Side) → event_of (bytes ++ more) (Bytes side (length more) (length bytes)) ≡ Piece 0 side more
 last_event bytes more side =
     let cut : drop (length bytes) (bytes ++ more) ≡ more = drop-append_seam bytes more in
     ap (λ (xs : List ℕ). Piece 0 side (take (length more) xs)) cut ∙ ap (λ (xs : List ℕ). Piece 0 side xs) (take_all (length more) more (omega arith))
@@ -74,16 +74,16 @@ abbrev some_is : Option (List ℕ) → List ℕ
 some_is None = []
 some_is (Some bytes) = bytes
 
-pub pushed_piece : (side : Side) (read : Option (List ℕ)) (old new : List ℕ) (places : List Place) (size : ℕ) → onto old read ≡ Some new → AllWithin (length old) places → length old + size ≡ length new → 0 < size → size ≤ 4096 → onto (events_at old places) (one (piece_of side read)) ≡ Some (events_at new (places ++ Bytes side (length old) size ∷ []))
+pub pushed_piece : (side : Side) (read : Option (List ℕ)) (old new : List ℕ) (places : List Place) (size : ℕ) → onto old read ≡ Some new → AllWithin (length old) places → length old + size ≡ length new → 0 < size → size ≤ 4096 → onto (events_at old places) (one (piece_of side read)) ≡ Some (events_at new (places ++ Bytes side size (length old) ∷ []))
 pushed_piece side None old new places size is all total some few = absurd (subst HasNone is tt)
 pushed_piece side (Some bytes) old new places size is all total some few =
     let grown : old ++ bytes ≡ new = ap some_is is in
     let sized : length bytes ≡ size = omega (arith, total, length-append old bytes, ap length grown) in
     let low : nat_lt 0 (length bytes) ≡ true = lt-ltb 0 (length bytes) (omega (arith, sized, some)) in
     let high : nat_le (length bytes) 4096 ≡ true = le-leb (length bytes) 4096 (omega (arith, sized, few)) in
-    let place : Place = Bytes side (length old) size in
+    let place : Place = Bytes side size (length old) in
     let kept : events_at new places ≡ events_at old places = ap (λ (xs : List ℕ). events_at xs places) (sym grown) ∙ events_stay old bytes places all in
-    let last : event_of new place ≡ Piece 0 side bytes = ap (λ (xs : List ℕ). event_of xs place) (sym grown) ∙ ap (λ (n : ℕ). event_of (old ++ bytes) (Bytes side (length old) n)) (sym sized) ∙ last_event old bytes side in
+    let last : event_of new place ≡ Piece 0 side bytes = ap (λ (xs : List ℕ). event_of xs place) (sym grown) ∙ ap (λ (n : ℕ). event_of (old ++ bytes) (Bytes side n (length old))) (sym sized) ∙ last_event old bytes side in
     ap (λ (b : Bool). onto (events_at old places) (one (cond (b && nat_le (length bytes) 4096) (Some (Piece 0 side bytes)) None))) low
     ∙ ap (λ (b : Bool). onto (events_at old places) (one (cond b (Some (Piece 0 side bytes)) None))) high
     ∙ ap Some (ap (λ (es : List Event). es ++ Piece 0 side bytes ∷ []) (sym kept) ∙ ap (λ (e : Event). events_at new places ++ e ∷ []) (sym last) ∙ sym (events_at-append new places (place ∷ [])))

@@ -18,7 +18,7 @@ frame_at text start size = bytes_of (unhex (take (2 * size) (drop start text)))
 
 -- the output of a place, and the number of inputs before it
 abbrev pub output_of : List ℕ → Output → ℕ × Out
-output_of text (Frame number session to start size) = (number, Send session to (frame_at text start size))
+output_of text (Frame to size number session start) = (number, Send session to (frame_at text start size))
 output_of text (Closing number session) = (number, Close session)
 
 abbrev pub outputs_in : List ℕ → List Output → List (ℕ × Out)
@@ -27,7 +27,7 @@ outputs_in text (place ∷ places) = output_of text place ∷ outputs_in text pl
 
 -- the digits stand within so many bytes
 abbrev pub IsIn : ℕ → Output → Type 0
-IsIn total (Frame number session to start size) = start + 2 * size ≤ total
+IsIn total (Frame to size number session start) = start + 2 * size ≤ total
 IsIn total (Closing number session) = Unit {0}
 
 abbrev pub AllIn : ℕ → List Output → Type 0

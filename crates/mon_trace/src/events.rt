@@ -20,11 +20,12 @@ use std::marker::Model;
 /// The most bytes of a piece.
 const LARGEST_PIECE: usize = 4096;
 
-/// An event: the opening of a session, or where the bytes of a piece stand.
+/// An event: the opening of a session, or where the bytes of a piece stand. Small fields come first, so that it takes
+/// 16 bytes.
 #[derive(Clone, Copy)]
 pub(crate) enum Place {
     Opening,
-    Bytes { side: Side, start: usize, size: u16 },
+    Bytes { side: Side, size: u16, start: usize },
 }
 
 /// Events of session 0, seen as their list.

@@ -14,16 +14,16 @@ use mon_world::{Out, Side};
 use std::alloc::{AllocError, Global};
 use std::marker::Model;
 
-/// An output, after so many inputs.
+/// An output, after so many inputs. Small fields come first, so that it takes 32 bytes.
 #[derive(Clone, Copy)]
 pub(crate) enum Output {
     /// A frame of so many bytes, whose digits begin at a place of the text.
     Frame {
+        to: Side,
+        size: u16,
         number: u64,
         session: u64,
-        to: Side,
         start: usize,
-        size: u16,
     },
     /// The end of a session.
     Closing {

@@ -17,5 +17,5 @@ returns-in_ok-push_frame-in-Send-clause-place c =
     let start : c.args.before + c.len.result ≡ c.args.before + length (put_head c.args.number sent.session sent.to) = ap (λ (n : ℕ). c.args.before + n) (let sized : c.len.result ≡ length c.push_head.new.line.items = search rules in sized ∙ ap length head) in
     let says : unhex (hex sent.frame) ≡ Some sent.frame = subst (λ (xs : List ℕ). unhex (hex xs) ≡ Some xs) c.bytes.ensures.value c.in_ok-push_frame-in-Send.ensures.digits in
     let placed = frame_placed c.args.before c.args.number sent.session sent.to sent.frame (c.args.before + c.len.result) size says start (c.size_of.ensures ∙ ap length c.bytes-in-Send.ensures.value) in
-    subst (λ (out : Out). IsPlaceIn c.args.before c.push_frame.new.line.items c.args.number out (Frame c.args.number sent.session sent.to (c.args.before + c.len.result) size)) (sym sent.is)
-    (subst (λ (line : List ℕ). IsPlaceIn c.args.before line c.args.number (Send sent.session sent.to sent.frame) (Frame c.args.number sent.session sent.to (c.args.before + c.len.result) size)) line placed)
+    subst (λ (out : Out). IsPlaceIn c.args.before c.push_frame.new.line.items c.args.number out (Frame sent.to size c.args.number sent.session (c.args.before + c.len.result))) (sym sent.is)
+    (subst (λ (line : List ℕ). IsPlaceIn c.args.before line c.args.number (Send sent.session sent.to sent.frame) (Frame sent.to size c.args.number sent.session (c.args.before + c.len.result))) line placed)

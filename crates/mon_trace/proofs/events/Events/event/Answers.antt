@@ -12,14 +12,14 @@ pub bytes_at-requires : goal.bytes_at-requires
 bytes_at-requires c =
     let found = c.in-Some-Bytes in
     let within = kept (length c.self.inside.bytes.items) c.deref.result.now c.args.number found.field-0 (rw c.deref.ensures.value c.self.invariant) found.ensures.0 found.ensures.1 in
-    let ours : IsWithin (length c.self.inside.bytes.items) (Bytes found.side found.start found.size) = subst (IsWithin (length c.self.inside.bytes.items)) found.field-0-is within in
+    let ours : IsWithin (length c.self.inside.bytes.items) (Bytes found.side found.size found.start) = subst (IsWithin (length c.self.inside.bytes.items)) found.field-0-is within in
     omega (arith, ours.2, ap length c.deref-in-Some-Bytes.ensures.value)
 
 pub new-requires-clause-some : goal.new-requires-clause-some
 new-requires-clause-some c =
     let found = c.in-Some-Bytes in
     let within = kept (length c.self.inside.bytes.items) c.deref.result.now c.args.number found.field-0 (rw c.deref.ensures.value c.self.invariant) found.ensures.0 found.ensures.1 in
-    let ours : IsWithin (length c.self.inside.bytes.items) (Bytes found.side found.start found.size) = subst (IsWithin (length c.self.inside.bytes.items)) found.field-0-is within in
+    let ours : IsWithin (length c.self.inside.bytes.items) (Bytes found.side found.size found.start) = subst (IsWithin (length c.self.inside.bytes.items)) found.field-0-is within in
     let size : length c.bytes_at.result.now ≡ found.size = ap length c.bytes_at.ensures ∙ read_size c.deref-in-Some-Bytes.result.now found.start found.size (omega (arith, ours.2, ap length c.deref-in-Some-Bytes.ensures.value)) in
     omega (arith, ours.0, size)
 
@@ -27,7 +27,7 @@ pub new-requires-clause-few : goal.new-requires-clause-few
 new-requires-clause-few c =
     let found = c.in-Some-Bytes in
     let within = kept (length c.self.inside.bytes.items) c.deref.result.now c.args.number found.field-0 (rw c.deref.ensures.value c.self.invariant) found.ensures.0 found.ensures.1 in
-    let ours : IsWithin (length c.self.inside.bytes.items) (Bytes found.side found.start found.size) = subst (IsWithin (length c.self.inside.bytes.items)) found.field-0-is within in
+    let ours : IsWithin (length c.self.inside.bytes.items) (Bytes found.side found.size found.start) = subst (IsWithin (length c.self.inside.bytes.items)) found.field-0-is within in
     let size : length c.bytes_at.result.now ≡ found.size = ap length c.bytes_at.ensures ∙ read_size c.deref-in-Some-Bytes.result.now found.start found.size (omega (arith, ours.2, ap length c.deref-in-Some-Bytes.ensures.value)) in
     omega (arith, ours.1, size)
 

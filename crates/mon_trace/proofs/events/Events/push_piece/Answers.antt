@@ -33,9 +33,9 @@ invariant_of-self-2 c =
     let size = c.len.result - c.len-start.result in
     let start : c.len-start.result ≡ length old = search rules in
     let end : c.len.result ≡ length new = search rules in
-    let grown : c.push.new.self.items ≡ inside.places.items ++ Bytes c.args.side c.len-start.result size ∷ [] = search rules in
+    let grown : c.push.new.self.items ≡ inside.places.items ++ Bytes c.args.side size c.len-start.result ∷ [] = search rules in
     subst (AllWithin (length new)) (sym grown)
-    (all_within-append (length new) inside.places.items (Bytes c.args.side c.len-start.result size ∷ []) (all_within-more (length old) (length new) inside.places.items c.self.invariant c.push_bytes.ensures.longer) ((omega (arith, c.if-size-eq0.false), omega (arith, c.if-size-gt-LARGEST_PIECE.false), omega (arith, start, end, c.push_bytes.ensures.longer)), tt))
+    (all_within-append (length new) inside.places.items (Bytes c.args.side size c.len-start.result ∷ []) (all_within-more (length old) (length new) inside.places.items c.self.invariant c.push_bytes.ensures.longer) ((omega (arith, c.if-size-eq0.false), omega (arith, c.if-size-gt-LARGEST_PIECE.false), omega (arith, start, end, c.push_bytes.ensures.longer)), tt))
 
 pub returns : goal.returns
 returns c =
@@ -45,7 +45,7 @@ returns c =
     let size = c.len.result - c.len-start.result in
     let start : c.len-start.result ≡ length old = search rules in
     let end : c.len.result ≡ length new = search rules in
-    let grown : c.push.new.self.items ≡ inside.places.items ++ Bytes c.args.side (length old) size ∷ [] = search rules in
+    let grown : c.push.new.self.items ≡ inside.places.items ++ Bytes c.args.side size (length old) ∷ [] = search rules in
     let total : length old + size ≡ length new = omega (arith, start, end, c.push_bytes.ensures.longer) in
     let read = unhex c.args.digits.now in
     ap (λ (events : List Event). onto events (one (piece_of c.args.side read))) (sym c.self.view_is)
