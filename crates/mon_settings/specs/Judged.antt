@@ -1,12 +1,9 @@
 -- What a text says as settings, or the path of its first wrong member.
-use Rattle.std.specs.Prelude.{◌≡◌, ℕ, List, codes, Option, Some, None, Result, Ok, Err, ⊤}
+use Rattle.std.specs.Prelude.{◌≡◌, ℕ, List, codes, Option, Some, None, Result, Ok, Err}
 use Rattle.std.specs.Str.{IsUtf8}
 use Rattle.serde_json.specs.Data.{Data, Members}
 use Rattle.serde_json.specs.Find.{as_object}
 use Rattle.serde_json.specs.Read.{read}
-use Rattle.mon_topo.specs.declared.topology.Link.{Link}
-use Rattle.mon_topo.specs.declared.topology.Topology.{Topology}
-use Rattle.mon_settings.specs.declared.address.Address.{Address}
 use Rattle.mon_settings.specs.declared.fault.SettingsFault.{SettingsFault}
 use Rattle.mon_settings.specs.declared.fault.SettingsFault.TheVariants.{BadSettings, OutOfMemory}
 use Rattle.mon_settings.specs.declared.parts.Peers.{Peers}

@@ -61,8 +61,14 @@ fn reads_what_the_text_says(rt: HostRuntime) -> Result<(), Fail> {
     Ok(())
 }
 
+/// The path of the first wrong member of the star with one member more.
+fn wrong_with(alloc: Global, name: &str, value: &str) -> Result<PathBytes, OutOfMemory> {
+    let text = with(alloc, name, value)?;
+    wrong_path(alloc, text.as_bytes())
+}
+
 #[test]
-fn names_the_wrong_member(rt: HostRuntime) -> Result<(), Fail> {
+fn judges_numbers_and_names(rt: HostRuntime) -> Result<(), Fail> {
     let alloc = rt.alloc();
     let cases = [
         ("alarm_ticks", "0", "alarm_ticks"),
@@ -72,6 +78,37 @@ fn names_the_wrong_member(rt: HostRuntime) -> Result<(), Fail> {
         ("alarm_ticks", "3.0", "alarm_ticks"),
         ("alarm_ticks", "3e0", "alarm_ticks"),
         ("alarm_ticks", "\"3\"", "alarm_ticks"),
+        ("retry_ticks", "0", "retry_ticks"),
+        ("retry_ticks", "1", ""),
+        ("retry_ticks", "1000000", ""),
+        ("retry_ticks", "1000001", "retry_ticks"),
+        ("sessions", "4294967295", ""),
+        ("sessions", "4294967296", "sessions"),
+        ("sessions", "-1", "sessions"),
+        ("tick_ms", "0", "tick_ms"),
+        ("tick_ms", "1", ""),
+        ("tick_ms", "60000", ""),
+        ("tick_ms", "60001", "tick_ms"),
+        ("watch_ticks", "1000000", ""),
+        ("watch_ticks", "1000001", "watch_ticks"),
+        ("workers", "0", "workers"),
+        ("workers", "1", ""),
+        ("workers", "64", ""),
+        ("workers", "65", "workers"),
+        ("worker", "0", "worker"),
+        ("zone\":0,\"name\":0,\"zero", "0", "name"),
+    ];
+    for (name, value, path) in cases {
+        let found = wrong_with(alloc, name, value)?;
+        assert_eq!(rt; found.items(), path.as_bytes(), "{name}: {value}");
+    }
+    Ok(())
+}
+
+#[test]
+fn judges_addresses(rt: HostRuntime) -> Result<(), Fail> {
+    let alloc = rt.alloc();
+    let cases = [
         ("controller", "\"0.0.0.0:1\"", ""),
         ("controller", "\"255.255.255.255:65535\"", ""),
         ("controller", "\"127.0.0.1:0\"", "controller"),
@@ -86,13 +123,18 @@ fn names_the_wrong_member(rt: HostRuntime) -> Result<(), Fail> {
         ("controller", "\"127.0.0.1\"", "controller"),
         ("controller", "2130706433", "controller"),
         ("listen", "\"127.0.0.1:0\"", "listen"),
-        ("retry_ticks", "0", "retry_ticks"),
-        ("retry_ticks", "1", ""),
-        ("retry_ticks", "1000000", ""),
-        ("retry_ticks", "1000001", "retry_ticks"),
-        ("sessions", "4294967295", ""),
-        ("sessions", "4294967296", "sessions"),
-        ("sessions", "-1", "sessions"),
+    ];
+    for (name, value, path) in cases {
+        let found = wrong_with(alloc, name, value)?;
+        assert_eq!(rt; found.items(), path.as_bytes(), "{name}: {value}");
+    }
+    Ok(())
+}
+
+#[test]
+fn judges_lists(rt: HostRuntime) -> Result<(), Fail> {
+    let alloc = rt.alloc();
+    let cases = [
         ("switches", "[]", "switches"),
         ("switches", "\"0000000000000001\"", "switches"),
         ("switches", "[1]", "switches/0"),
@@ -147,22 +189,9 @@ fn names_the_wrong_member(rt: HostRuntime) -> Result<(), Fail> {
         ("tags", "[0,1]", "tags/0"),
         ("tags", "[1,4095]", "tags/1"),
         ("tags", "[101,100]", "tags/1"),
-        ("tick_ms", "0", "tick_ms"),
-        ("tick_ms", "1", ""),
-        ("tick_ms", "60000", ""),
-        ("tick_ms", "60001", "tick_ms"),
-        ("watch_ticks", "1000000", ""),
-        ("watch_ticks", "1000001", "watch_ticks"),
-        ("workers", "0", "workers"),
-        ("workers", "1", ""),
-        ("workers", "64", ""),
-        ("workers", "65", "workers"),
-        ("worker", "0", "worker"),
-        ("zone\":0,\"name\":0,\"zero", "0", "name"),
     ];
     for (name, value, path) in cases {
-        let text = with(alloc, name, value)?;
-        let found = wrong_path(alloc, text.as_bytes())?;
+        let found = wrong_with(alloc, name, value)?;
         assert_eq!(rt; found.items(), path.as_bytes(), "{name}: {value}");
     }
     Ok(())
