@@ -261,13 +261,17 @@ enum Case {
     Dropping,
 }
 
+/// The rule that is put, watched or cut.
+fn rule_of(alloc: Global, case: Case) -> Result<Rule, OutOfMemory> {
+    match case {
+        Case::Put | Case::Watch | Case::Cut | Case::Narrowed => to_24(alloc, &[2]),
+        Case::Moved => to_24(alloc, &[1]),
+        Case::Dropping => to_24(alloc, &[]),
+    }
+}
+
 fn target(alloc: Global, case: Case) -> Result<Target, OutOfMemory> {
-    let ports: &[u16] = match case {
-        Case::Put | Case::Watch | Case::Cut | Case::Narrowed => &[2],
-        Case::Moved => &[1],
-        Case::Dropping => &[],
-    };
-    let rule = to_24(alloc, ports)?;
+    let rule = rule_of(alloc, case)?;
     match case {
         Case::Put | Case::Dropping => Ok(Target::Put { rule, old: None }),
         Case::Watch => Ok(Target::Watch { rule }),
@@ -282,15 +286,12 @@ fn with_old(alloc: Global, rule: Rule, ports: &[u16]) -> Result<Target, OutOfMem
     Ok(Target::Put { rule, old })
 }
 
-/// The catching rules, the target's rule where it wasn't cut, and a lower rule that outputs to port 2 where one is asked
+/// The catching rules, the rule where it wasn't cut, and a lower rule that outputs to port 2 where one is asked
 /// for.
 fn table_after(alloc: Global, case: Case, lower: bool) -> Result<Table, OutOfMemory> {
     let mut table = catching(alloc)?;
-    match target(alloc, case)? {
-        Target::Put { rule, .. } | Target::Watch { rule } => {
-            let _ = table.put(rule)?;
-        }
-        Target::Cut { .. } => {}
+    if !matches!(case, Case::Cut) {
+        let _ = table.put(rule_of(alloc, case)?)?;
     }
     if lower {
         let _ = table.put(ipv4(alloc, 0x003820ef, 0, 0, 50)?)?;

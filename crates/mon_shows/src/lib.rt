@@ -6,8 +6,8 @@
 //! it, and the table without the update cannot. Two winners of one priority are never sure: the standard leaves open
 //! which of them the switch takes.
 //!
-//! No call takes memory. So `separates` makes no second table: it goes through the one table and leaves a rule out, or
-//! thinks one in, and stops behind the first effective priority that matches.
+//! No call takes memory. So `separates` makes no second table: it goes through the one it has, where it leaves a rule
+//! out or counts one in, and stops behind the first effective priority that matches.
 #![tactic(auto)]
 
 #[cfg(test)]
