@@ -35,8 +35,8 @@ pub enum ModRefusal {
     /// priority is 65534 or more, and its match overlaps that of a catching entry (FLOW_MOD_FAILED, EPERM).
     #[error("the match and priority are reserved")]
     Reserved,
-    /// It asks to look for an overlap and adds or replaces an entry, and an entry of the same effective priority
-    /// overlaps it; one with an equal match does too (FLOW_MOD_FAILED, OVERLAP).
+    /// It asks to look for an overlap, it is an ADD or a modification that names nothing, and an entry of the same
+    /// effective priority overlaps it; one with an equal match does too (FLOW_MOD_FAILED, OVERLAP).
     #[error("an entry of the same priority overlaps")]
     OverlapFlag,
     /// It adds an entry, and there are 4096 or more, unsettled cuts counted (FLOW_MOD_FAILED, ALL_TABLES_FULL).
