@@ -4,3 +4,4 @@ pub mod Faults
 pub mod Lists
 pub mod Names
 pub mod Judged
+pub mod Ranges

@@ -1,8 +1,9 @@
 //! The settings as a whole.
 
-ghost use Rattle.std.specs.Prelude.{◌≡◌};
+ghost use Rattle.std.specs.Prelude.{◌≡◌, IfOk};
 ghost use Rattle.serde_json.specs.View.{view};
 ghost use Rattle.mon_settings.specs.Judged.{members_of, of_value, settings_with, Says};
+ghost use Rattle.mon_settings.specs.Ranges.{InRange};
 ghost use Rattle.mon_settings.specs.Faults.{Gives};
 
 use crate::address::Address;
@@ -82,7 +83,8 @@ fn of_value(alloc: Global, value: &Value) -> Result<Settings, SettingsFault>
 /// order `alarm_ticks`, `controller`, `listen`, `retry_ticks`, `sessions`, `switches`, `links`, `tags`, `tick_ms`,
 /// `watch_ticks`, `workers`, and then the least unknown name.
 pub fn read_settings(alloc: Global, text: &[u8]) -> Result<Settings, SettingsFault>
-    ensures { Says text.now result }
+    ensures says { Says text.now result }
+    ensures in_range { IfOk result InRange }
 {
     match Value::from_slice(alloc, text) {
         Ok(value) => of_value(alloc, &value),
