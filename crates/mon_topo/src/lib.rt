@@ -11,6 +11,8 @@ mod greedy;
 mod links;
 mod tagged;
 mod tags;
+#[cfg(test)]
+mod tests;
 mod topology;
 mod vids;
 
@@ -23,6 +25,3 @@ pub use tagged::Tagged;
 pub use tags::Tags;
 pub use topology::{Link, Links, Topology};
 pub use vids::Vids;
-
-#[cfg(test)]
-mod tests;
