@@ -1,10 +1,11 @@
 //! Measurements, as words ask; `bench/` has the scripts that give them. Without words it prints nothing.
 //!
 //! `table N` times a table of N rules, `separate N` separation over N rules (N of 0: the frames of probes), and
-//! `solver KIND SIZE [SEED]` the solver.
+//! `solver KIND SIZE [SEED]` the solver; `frames all` prints probe frames.
 #![tactic(auto)]
 
 mod formulas;
+mod frames;
 mod separate;
 mod solver;
 mod table;
@@ -34,6 +35,7 @@ fn main(rt: HostRuntime) -> anyhow::Result<()> {
                 table::time(&rt, rt.alloc(), size)?;
             }
         }
+        "frames" => frames::print(&rt, rt.alloc())?,
         "separate" => separate::time(&rt, rt.alloc(), number(Some(kind)).min(65_535) as u16)?,
         "solver" => {
             let size = number(rest.first()).min(u64::from(u32::MAX)) as u32;
