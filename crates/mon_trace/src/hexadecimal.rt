@@ -1,12 +1,13 @@
 //! Bytes in lower hexadecimal digits, read and written by tables.
 
-ghost use Rattle.std.specs.Prelude.{◌≡◌, ◌+◌, ◌*◌, ◌≤◌, ◌<◌, ◌++◌, OnOk, length};
+ghost use Rattle.std.specs.Prelude.{◌≡◌, ◌+◌, ◌*◌, ◌≤◌, ◌<◌, ◌++◌, OnOk, IfOk, length, string_bytes};
 ghost use Rattle.mon_trace.specs.Grammar.{Reads};
 ghost use Rattle.mon_trace.specs.Reading.{onto};
 ghost use Rattle.mon_trace.specs.Hex.{hex, hex_digit, unhex, byte_of, digit_of, digit_in};
 
 use crate::fault::TraceFault;
-use std::alloc::AllocError;
+use mon_list::OutOfMemory;
+use std::alloc::{AllocError, Global};
 
 /// What each character says as a digit, and 16 where it is none.
 const VALUES: [u8; 256] = [
@@ -79,10 +80,23 @@ pub(crate) fn push_bytes(digits: &[u8], out: &mut Vec<u8>) -> Result<(), TraceFa
 pub(crate) fn push_digits(bytes: &[u8], out: &mut Vec<u8>) -> Result<(), AllocError>
     ensures { OnOk result (out.new.items ≡ out.old.items ++ hex bytes.now) }
 {
-    out.reserve(bytes.len())?;
+    out.reserve(2 * bytes.len())?;
     for byte in bytes {
         out.push(digit_for(*byte / 16))?;
         out.push(digit_for(*byte % 16))?;
     }
     Ok(())
+}
+
+/// The digits of bytes, as a text of their own.
+pub(crate) fn digits(alloc: Global, bytes: &[u8]) -> Result<String, OutOfMemory>
+    ensures { IfOk result (λ text. string_bytes text ≡ hex bytes.now) }
+{
+    let mut out = Vec::new(alloc);
+    push_digits(bytes, &mut out)?;
+    match String::from_utf8(out) {
+        Ok(text) => Ok(text),
+        // Digits are ASCII.
+        Err(_) => unreachable!(),
+    }
 }

@@ -1,0 +1,36 @@
+//! The lines of a session's table.
+
+ghost use Rattle.std.specs.Prelude.{◌≡◌, string_bytes, IfOk};
+ghost use Rattle.mon_trace.specs.TableLines.{actions_text, table_line};
+
+use crate::hexadecimal::digits;
+use mon_header::Actions;
+use mon_list::OutOfMemory;
+use mon_table::Rule;
+use of_action::write_actions;
+use of_match::write_match;
+use std::alloc::Global;
+
+/// The digits of actions, and a dash where there are none.
+fn actions_text(alloc: Global, actions: &Actions) -> Result<String, OutOfMemory>
+    ensures { IfOk result (λ text. string_bytes text ≡ actions_text actions.now) }
+{
+    match actions.items() {
+        [] => Ok(String::from_str(alloc, "-")?),
+        [_, ..] => digits(alloc, &write_actions(alloc, actions)?),
+    }
+}
+
+/// The line of one rule of a session's table, with its line feed: `table`, the number of the session, the rule's
+/// priority field, the 40 bytes of its match (OpenFlow 1.0.0, flow match structures) and the bytes of its actions (flow
+/// action structures). Numbers are decimal and bytes are lower hexadecimal digits; a rule without actions has `-` in
+/// their place.
+pub fn table_line(alloc: Global, session: u64, rule: &Rule) -> Result<String, OutOfMemory>
+    ensures { IfOk result (λ text. string_bytes text ≡ table_line session rule.now) }
+{
+    let priority = rule.priority;
+    let matching = digits(alloc, &write_match(&rule.matching))?;
+    let actions = actions_text(alloc, &rule.actions)?;
+    let line = format!(in alloc; "table {session} {priority} {matching} {actions}\n")?;
+    Ok(line)
+}
