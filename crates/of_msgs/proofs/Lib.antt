@@ -1,2 +1,3 @@
 pub mod Mods
 pub mod Written
+pub mod Determined

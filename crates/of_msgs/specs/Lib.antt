@@ -1,3 +1,4 @@
 pub mod Kept
 pub mod Layout
 pub mod FlowMods
+pub mod ReadMods

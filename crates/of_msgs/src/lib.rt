@@ -2,7 +2,8 @@
 //!
 //! Each reader takes a frame and gives the fields of its layout, by their byte places (`specs/Layout.antt`,
 //! `specs/FlowMods.antt`), or says that the frame is too short for it. None looks at the frame's type: the caller chose
-//! the reader by it. Each writer makes a frame that its reader reads back.
+//! the reader by it. A FLOW_MOD is read as a function of the bytes (`flow_mod_in` of `specs/ReadMods.antt`), which is all
+//! that a reader can answer while there is memory. Each writer makes a frame that its reader reads back.
 //!
 //! A `FlowMod` keeps the message's own bytes of its match and its actions beside what they mean, so that what is passed
 //! on is what came, unused wildcard bits and pads included.
@@ -15,6 +16,7 @@ mod fault;
 pub mod flags;
 mod flow_mod;
 pub mod kinds;
+mod laws;
 mod numbers;
 mod packet;
 pub mod ports;
@@ -28,6 +30,7 @@ pub use command::Command;
 pub use error::{ErrorMsg, error_frame, read_error};
 pub use fault::ModFault;
 pub use flow_mod::{FlowMod, RawActions};
+pub use laws::reading_is_a_function;
 pub use mon_list::OutOfMemory;
 pub use packet::{NO_BUFFER, OWN_XID, PacketIn, packet_out, read_packet_in};
 pub use reading::{read_features, read_flow_mod, read_miss_length};

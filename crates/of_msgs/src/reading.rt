@@ -1,8 +1,10 @@
 //! Frames to messages.
 
-ghost use Rattle.std.specs.Prelude.{◌≡◌, ◌≤◌, ◌<◌, length, take, drop, MatchOption};
+ghost use Rattle.std.specs.Prelude.{◌≡◌, ◌≤◌, ◌<◌, ◌⊎◌, length, take, drop, MatchOption, IfOk};
+ghost use Rattle.of_msgs.specs.declared.fault.ModFault.TheVariants as faults;
 ghost use Rattle.of_msgs.specs.Layout.{datapath_of, miss_length_of};
 ghost use Rattle.of_msgs.specs.FlowMods.{ReadsFlowMod};
+ghost use Rattle.of_msgs.specs.ReadMods.{flow_mod_in};
 
 use crate::command::command_of;
 use crate::fault::ModFault;
@@ -46,9 +48,12 @@ fn match_bytes(bytes: &[u8]) -> [u8; 40]
     spelled
 }
 
-/// A FLOW_MOD (OpenFlow 1.0.0, modify flow entry message), whatever type the frame has.
+/// A FLOW_MOD (OpenFlow 1.0.0, modify flow entry message), whatever type the frame has. The same bytes are always read
+/// alike, unless memory runs out.
 pub fn read_flow_mod(alloc: Global, frame: &Frame) -> Result<FlowMod, ModFault>
-    ensures { ReadsFlowMod frame.now result }
+    ensures reads { ReadsFlowMod frame.now result }
+    ensures message { IfOk result (λ m. flow_mod_in frame.now ≡ Ok m) }
+    ensures as_function { (result ≡ Err faults.OutOfMemory) ⊎ (result ≡ flow_mod_in frame.now) }
 {
     let bytes = frame.bytes();
     if bytes.len() < 72 {
