@@ -103,6 +103,9 @@ fn watch(alloc: Global, view: View) -> Result<Job, OutOfMemory>
     })
 }
 
+/// Takes only what threads may share.
+fn crosses<T: Send + Sync>(_value: &T) {}
+
 /// The verdict that this header and emission separate, where they do.
 fn probe(job: Arc<Job>, h: Header, e: Emission) -> Option<Verdict> {
     let asked: &Job = &job;
@@ -128,6 +131,7 @@ fn verdicts_are_true_of_their_jobs(rt: HostRuntime) -> Result<(), Fail> {
     let Some(found) = probe(Arc::try_clone(&job)?, PACKET, e) else {
         return Err(Fail::new("no probe"));
     };
+    crosses(&found);
     assert!(rt; found.job().number == 3);
     assert!(rt; matches!(found.says(), Says::Probe(_, by) if same_emission(by, &e)));
     let skipped = Verdict::new(Arc::try_clone(&job)?, Says::Skipped { seen: 8 });
