@@ -5,7 +5,7 @@ ghost use Rattle.mon_cnf.specs.Truth.{Within};
 
 use super::*;
 use mon_cnf::{Clause, Formula, Lit, holds};
-use mon_refute::{accepts, read_log, write_log};
+use mon_refute::{Hints, Log, LogLine, accepts, read_log, write_log};
 use std::alloc::Global;
 use std::test::*;
 
@@ -111,4 +111,72 @@ fn decides(rt: HostRuntime) {
             }
         }
     }
+}
+
+/// What is changed of a log's first line.
+#[derive(Clone, Copy, Debug, PartialEq, Eq)]
+enum Change {
+    Nothing,
+    LastHintDropped,
+    FirstLiteralTurned,
+    LineRemoved,
+}
+
+/// The line, changed.
+fn changed_line(alloc: Global, line: &LogLine, change: Change) -> Result<LogLine, OutOfMemory> {
+    let mut literals = Clause::new(alloc);
+    for (place, literal) in line.literals.items().iter().enumerate() {
+        let turned = place == 0 && change == Change::FirstLiteralTurned;
+        literals.push(Lit {
+            var: literal.var,
+            positive: literal.positive != turned,
+        })?;
+    }
+    let dropped = usize::from(change == Change::LastHintDropped);
+    let kept = line.hints.items().len().saturating_sub(dropped);
+    let mut hints = Hints::new(alloc);
+    for hint in line.hints.items().iter().take(kept) {
+        if *hint > 0 {
+            hints.push(*hint)?;
+        }
+    }
+    Ok(LogLine { literals, hints })
+}
+
+/// The log with its first line changed.
+fn changed_log(alloc: Global, log: &Log, change: Change) -> Result<Log, OutOfMemory> {
+    let mut changed = Log::new(alloc);
+    for (place, line) in log.items().iter().enumerate() {
+        if place == 0 && change == Change::LineRemoved {
+            continue;
+        }
+        let here = if place == 0 { change } else { Change::Nothing };
+        changed.push(changed_line(alloc, line, here)?)?;
+    }
+    Ok(changed)
+}
+
+#[test]
+fn changed_logs_of_the_solver_are_refused(rt: HostRuntime) -> Result<(), Fail> {
+    let alloc = rt.alloc();
+    let f = formula(alloc, 12, &PIGEONS)?;
+    let Outcome::Refuted(log) = solve_plain(alloc, &f)? else {
+        return Err(Fail::from("four pigeons have no place in three holes"));
+    };
+    let mut marks = vec![in alloc; 0u8; f.vars() as usize]?;
+    assert!(rt; marks.len() == f.vars() as usize);
+    for (change, accepted) in [
+        (Change::Nothing, true),
+        (Change::LastHintDropped, false),
+        (Change::FirstLiteralTurned, false),
+        (Change::LineRemoved, false),
+    ] {
+        let changed = changed_log(alloc, &log, change)?;
+        assert_eq!(rt;
+            accepts(&f, &changed, &mut marks),
+            accepted,
+            "at {change:?}"
+        );
+    }
+    Ok(())
 }
