@@ -1,0 +1,45 @@
+-- The headers of probes of one class and port, as clauses.
+use Rattle.std.specs.Prelude.{ℕ, List, [], ◌∷◌, ◌++◌, flat_map}
+use Rattle.mon_cnf.specs.declared.clause.Lit.{Lit}
+use Rattle.mon_header.specs.declared.class.Class.{Class}
+use Rattle.mon_header.specs.declared.class.Class.TheVariants.{Tcp, Udp, Icmp, OtherIpv4, Plain}
+use Rattle.mon_shows.specs.Views.{Viewing}
+use Rattle.mon_literals.specs.declared.condition.Condition.{Condition}
+use Rattle.mon_literals.specs.declared.condition.Condition.TheVariants.{Is, IsNot}
+use Rattle.mon_literals.specs.Runs.{run, spelled, denied, alone}
+
+-- what the class asks
+abbrev pub form_of : Class → List Condition
+-- IPv4, and the protocol
+form_of Tcp = Is (run 136 16 0x0800) ∷ Is (run 160 8 6) ∷ []
+form_of Udp = Is (run 136 16 0x0800) ∷ Is (run 160 8 17) ∷ []
+-- the upper bytes of the ICMP type and code are 0
+form_of Icmp = Is (run 136 16 0x0800) ∷ Is (run 160 8 1) ∷ Is (run 232 8 0) ∷ Is (run 248 8 0) ∷ []
+-- none of those protocols, and no ports
+form_of OtherIpv4 =
+    Is (run 136 16 0x0800) ∷ IsNot (run 160 8 1) ∷ IsNot (run 160 8 6) ∷ IsNot (run 160 8 17)
+    ∷ Is (run 232 16 0) ∷ Is (run 248 16 0) ∷ []
+-- the upper seven bits of the type are at least those of 0x0600, no type with a header of its own, and no further field
+form_of Plain =
+    IsNot (run 136 7 0) ∷ IsNot (run 136 7 1) ∷ IsNot (run 136 7 2)
+    ∷ IsNot (run 136 16 0x0800) ∷ IsNot (run 136 16 0x0806) ∷ IsNot (run 136 16 0x8100)
+    ∷ IsNot (run 136 16 0x88a8) ∷ IsNot (run 136 16 0x8808) ∷ IsNot (run 136 16 0x8809)
+    ∷ Is (run 152 8 0) ∷ Is (run 160 8 0) ∷ Is (run 168 32 0) ∷ Is (run 200 32 0)
+    ∷ Is (run 232 16 0) ∷ Is (run 248 16 0) ∷ []
+
+-- what is asked whatever the class: the port and the tag, a VLAN priority below 8, a source that is one station, a
+-- destination that is neither the mark of dropped packets nor one that bridges keep to themselves, whose upper 44 bits
+-- agree, and the two low bits of the type of service at 0
+abbrev pub shared_of : ℕ → ℕ → List Condition
+shared_of tag in_port =
+    Is (run 0 16 in_port) ∷ Is (run 112 16 tag) ∷ Is (run 128 5 0) ∷ Is (run 23 1 0)
+    ∷ IsNot (run 64 48 0x024d4f4e4f00) ∷ IsNot (run 64 44 0x0180c200000) ∷ Is (run 158 2 0) ∷ []
+
+-- the clauses of one condition
+abbrev pub asked : Condition → List (List Lit)
+asked (Is r) = alone (spelled r)
+asked (IsNot r) = denied (spelled r) ∷ []
+
+-- a header that a probe can have in the view is of this class, and came in at this port
+unfoldable pub class_clauses : Viewing → Class → ℕ → List (List Lit)
+class_clauses view class in_port = flat_map asked (shared_of view.tag in_port ++ form_of class)

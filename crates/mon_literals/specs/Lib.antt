@@ -1,0 +1,5 @@
+pub mod Runs
+pub mod Bearing
+pub mod Patterns
+pub mod Conditions
+pub mod Differing

@@ -1,0 +1,11 @@
+//! A header as 264 variables of a formula: matches, classes and rewrites as literals and clauses over its bits.
+//!
+//! Variable `k` is the bit at place `k` of a header, so that an assignment of 264 values bears a header. A `Run` of
+//! bits and the number that they spell is a list of literals, and all that is said of a header is said by runs.
+#![tactic(auto)]
+
+mod condition;
+mod run;
+
+pub use condition::Condition;
+pub use run::Run;
