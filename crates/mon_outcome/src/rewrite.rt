@@ -58,27 +58,6 @@ fn wide_u32(field: Option<u32>) -> Option<u64>
     }
 }
 
-/// The fields in the order of a header's bits, each with its count of bits.
-#[tactic(auto, unfolding(crate::specs::Filling::laid))]
-fn laid(r: &Rewrite) -> [(u16, Option<u64>); 12]
-    ensures { result ≡ laid r.now }
-{
-    [
-        (16, wide_u16(r.in_port)),
-        (48, r.dl_src),
-        (48, r.dl_dst),
-        (16, wide_u16(r.dl_vlan)),
-        (8, wide_u8(r.dl_vlan_pcp)),
-        (16, wide_u16(r.dl_type)),
-        (8, wide_u8(r.nw_tos)),
-        (8, wide_u8(r.nw_proto)),
-        (32, wide_u32(r.nw_src)),
-        (32, wide_u32(r.nw_dst)),
-        (16, wide_u16(r.tp_src)),
-        (16, wide_u16(r.tp_dst)),
-    ]
-}
-
 fn has_bit(n: u64, place: u16) -> bool
     ensures { result ≡ bit n place }
 {
@@ -96,13 +75,34 @@ fn field_bit(field: Option<u64>, place: u16) -> Bit
 }
 
 impl Rewrite {
+    /// The fields in the order of a header's bits, each with its count of bits.
+    #[tactic(auto, unfolding(crate::specs::Filling::laid))]
+    pub fn laid(&self) -> [(u16, Option<u64>); 12]
+        ensures { result ≡ laid self.now }
+    {
+        [
+            (16, wide_u16(self.in_port)),
+            (48, self.dl_src),
+            (48, self.dl_dst),
+            (16, wide_u16(self.dl_vlan)),
+            (8, wide_u8(self.dl_vlan_pcp)),
+            (16, wide_u16(self.dl_type)),
+            (8, wide_u8(self.nw_tos)),
+            (8, wide_u8(self.nw_proto)),
+            (32, wide_u32(self.nw_src)),
+            (32, wide_u32(self.nw_dst)),
+            (16, wide_u16(self.tp_src)),
+            (16, wide_u16(self.tp_dst)),
+        ]
+    }
+
     /// The bit at a place below 264, in the order of a header's bits.
     pub fn bit(&self, place: u16) -> Bit
         requires { place < 264 }
         ensures { result ≡ bit_of self.now place }
     {
         let mut left = place;
-        for (count, field) in laid(self) {
+        for (count, field) in self.laid() {
             if left < count {
                 return field_bit(field, count - 1 - left);
             }
