@@ -1,6 +1,6 @@
 -- The cases of a job: in which class and at which port a probe of it can come in, which rule wins there, and which of
 -- that rule's emissions shows the update.
-use Rattle.std.specs.Prelude.{◌≡◌, ℕ, suc, Bool, true, List, [], ◌∷◌, ◌++◌, Option, Some, None}
+use Rattle.std.specs.Prelude.{◌≡◌, ℕ, suc, true, List, [], ◌∷◌, ◌++◌, Option, Some, None}
 use Rattle.std.specs.List.{slice_get, Contains}
 use Rattle.std.specs.Option.{option_to_list}
 use Rattle.mon_header.specs.declared.class.Class.{Class}
@@ -64,7 +64,7 @@ abbrev pub all_classes : List Class
 all_classes = Tcp ∷ Udp ∷ Icmp ∷ OtherIpv4 ∷ Plain ∷ []
 
 -- the cases of a job, by class, then by port, then by winner, then by position
-abbrev pub cases_of : Task → List Case
+unfoldable pub cases_of : Task → List Case
 cases_of j = by_class j.table j.target j.view.links all_classes
 
 -- the case is one of the job's

@@ -1,1 +1,3 @@
 pub mod Cases
+pub mod Clauses
+pub mod Formulas
