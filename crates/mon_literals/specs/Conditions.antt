@@ -6,7 +6,8 @@ use Rattle.mon_header.specs.declared.class.Class.TheVariants.{Tcp, Udp, Icmp, Ot
 use Rattle.mon_shows.specs.Views.{Viewing}
 use Rattle.mon_literals.specs.declared.condition.Condition.{Condition}
 use Rattle.mon_literals.specs.declared.condition.Condition.TheVariants.{Is, IsNot}
-use Rattle.mon_literals.specs.Runs.{run, spelled, denied, alone}
+use Rattle.mon_literals.specs.Runs.{run, spelled}
+use Rattle.mon_literals.specs.Clauses.{denied, alone}
 
 -- what the class asks
 abbrev pub form_of : Class → List Condition

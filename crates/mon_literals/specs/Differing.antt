@@ -4,7 +4,8 @@ use Rattle.std.specs.List.{AllByRecursion}
 use Rattle.mon_cnf.specs.declared.clause.Lit.{Lit}
 use Rattle.mon_outcome.specs.declared.rewrite.Rewrite.{Rewrite}
 use Rattle.mon_outcome.specs.Filling.{laid}
-use Rattle.mon_literals.specs.Runs.{run, spelled, denied}
+use Rattle.mon_literals.specs.Runs.{run, spelled}
+use Rattle.mon_literals.specs.Clauses.{denied}
 
 -- a fixed value fits the field's bits
 abbrev pub FitsField : ℕ × Option ℕ → Type 0

@@ -1,3 +1,4 @@
+pub mod Clauses
 pub mod Runs
 pub mod Bearing
 pub mod Patterns

@@ -1,5 +1,5 @@
 -- Runs of a header's bits as literals: variable k is the bit at place k of a header.
-use Rattle.std.specs.Prelude.{ℕ, suc, Bool, not, List, [], ◌∷◌, map}
+use Rattle.std.specs.Prelude.{ℕ, suc, Bool, List, [], ◌∷◌}
 use Rattle.mon_cnf.specs.declared.clause.Lit.{Lit}
 use Rattle.mon_header.specs.Places.{bits_of}
 use Rattle.mon_literals.specs.declared.run.Run.{Run}
@@ -16,15 +16,3 @@ valued var (b ∷ bits) = record { var = var; positive = b } ∷ valued (suc var
 -- the literals that say that a run's bits spell its number
 abbrev pub spelled : Run → List Lit
 spelled r = valued r.start (bits_of r.count r.number)
-
--- the literal that is true where this one is not
-abbrev pub opposite : Lit → Lit
-opposite l = record { var = l.var; positive = not l.positive }
-
--- the clause that says that not all of these literals are true
-abbrev pub denied : List Lit → List Lit
-denied ls = map opposite ls
-
--- the clauses that say that each of these literals is true
-abbrev pub alone : List Lit → List (List Lit)
-alone ls = map (λ l. l ∷ []) ls

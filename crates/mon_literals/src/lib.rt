@@ -4,8 +4,13 @@
 //! bits and the number that they spell is a list of literals, and all that is said of a header is said by runs.
 #![tactic(auto)]
 
+mod clauses;
 mod condition;
+mod matching;
 mod run;
 
+pub use clauses::push_alone;
 pub use condition::Condition;
+pub use matching::pattern;
+pub use mon_cnf::OutOfMemory;
 pub use run::Run;

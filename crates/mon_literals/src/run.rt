@@ -1,5 +1,12 @@
 //! Runs of a header's bits.
 
+ghost use Rattle.std.specs.Prelude.{◌≡◌, ◌++◌, OnOk, if◌then◌else◌};
+ghost use Rattle.mon_header.specs.Wild.{bit};
+ghost use Rattle.mon_literals.specs.Clauses.{denied};
+ghost use Rattle.mon_literals.specs.Runs.{spelled};
+
+use mon_cnf::{Clause, Lit, OutOfMemory};
+
 /// Bits of a header that stand one after the other, from a place below 264 on (`mon_header::bit`), and the number that
 /// they spell, the most significant bit first.
 #[derive(Clone, Copy, Debug)]
@@ -7,4 +14,23 @@ pub struct Run {
     pub start: u16,
     pub count: u16,
     pub number: u64,
+}
+
+fn has_bit(n: u64, place: u16) -> bool
+    ensures { result ≡ bit n place }
+{
+    place < 64 && (n >> place) & 1 == 1
+}
+
+/// Appends the literals that say that the run spells its number, or the opposite of each.
+pub(crate) fn push_run(literals: &mut Clause, run: Run, positive: bool) -> Result<(), OutOfMemory>
+    ensures { OnOk result (literals.new ≡ literals.old ++ (if positive then spelled run else denied (spelled run))) }
+{
+    for i in 0..run.count {
+        literals.push(Lit {
+            var: u32::from(run.start) + u32::from(i),
+            positive: has_bit(run.number, run.count - 1 - i) == positive,
+        })?;
+    }
+    Ok(())
 }
