@@ -11,7 +11,7 @@ use Rattle.mon_outcome.specs.declared.door.Door.TheVariants.{Port, Controller}
 use Rattle.mon_outcome.specs.declared.shape.Shape.{Shape}
 use Rattle.mon_outcome.specs.Emitting.{any_unknown}
 use Rattle.mon_outcome.specs.Shaping.{shapes_of}
-use Rattle.mon_literals.specs.Runs.{denied, alone}
+use Rattle.mon_literals.specs.Clauses.{denied, alone}
 use Rattle.mon_literals.specs.Patterns.{pattern_of}
 use Rattle.mon_literals.specs.Differing.{differ}
 
