@@ -1,1 +1,4 @@
 pub mod Running
+pub mod Reaching
+pub mod Values
+pub mod Differences

@@ -10,7 +10,7 @@ pub record Bears (v : ℕ → Bool) (h : Header) : Type 0 where
   pub each : (place : ℕ) → place < 264 → v place ≡ bit_at h place
 
 -- the values of so many variables, from the first on
-abbrev pub first_values : ℕ → (ℕ → Bool) → List Bool
+unfoldable pub first_values : ℕ → (ℕ → Bool) → List Bool
 first_values zero v = []
 first_values (suc count) v = first_values count v ++ v count ∷ []
 

@@ -1,5 +1,5 @@
 -- The headers of probes of one class and port, as clauses.
-use Rattle.std.specs.Prelude.{ℕ, List, [], ◌∷◌, ◌++◌, flat_map}
+use Rattle.std.specs.Prelude.{ℕ, ◌+◌, Bool, nat_le, List, [], ◌∷◌, ◌++◌, flat_map}
 use Rattle.mon_cnf.specs.declared.clause.Lit.{Lit}
 use Rattle.mon_header.specs.declared.class.Class.{Class}
 use Rattle.mon_header.specs.declared.class.Class.TheVariants.{Tcp, Udp, Icmp, OtherIpv4, Plain}
@@ -9,24 +9,35 @@ use Rattle.mon_literals.specs.declared.condition.Condition.TheVariants.{Is, IsNo
 use Rattle.mon_literals.specs.Runs.{run, spelled}
 use Rattle.mon_literals.specs.Clauses.{denied, alone}
 
--- what the class asks
-abbrev pub form_of : Class → List Condition
--- IPv4, and the protocol
-form_of Tcp = Is (run 136 16 0x0800) ∷ Is (run 160 8 6) ∷ []
-form_of Udp = Is (run 136 16 0x0800) ∷ Is (run 160 8 17) ∷ []
--- the upper bytes of the ICMP type and code are 0
-form_of Icmp = Is (run 136 16 0x0800) ∷ Is (run 160 8 1) ∷ Is (run 232 8 0) ∷ Is (run 248 8 0) ∷ []
--- none of those protocols, and no ports
-form_of OtherIpv4 =
-    Is (run 136 16 0x0800) ∷ IsNot (run 160 8 1) ∷ IsNot (run 160 8 6) ∷ IsNot (run 160 8 17)
-    ∷ Is (run 232 16 0) ∷ Is (run 248 16 0) ∷ []
--- the upper seven bits of the type are at least those of 0x0600, no type with a header of its own, and no further field
-form_of Plain =
+-- the run ends within the bits of a header
+abbrev pub is_in_header : Condition → Bool
+is_in_header (Is r) = nat_le (r.start + r.count) 264
+is_in_header (IsNot r) = nat_le (r.start + r.count) 264
+
+-- the type of a frame without a further header that a switch reads: one of at least 0x0600, by its upper seven bits, and
+-- none of these
+abbrev pub plain_type : List Condition
+plain_type =
     IsNot (run 136 7 0) ∷ IsNot (run 136 7 1) ∷ IsNot (run 136 7 2)
     ∷ IsNot (run 136 16 0x0800) ∷ IsNot (run 136 16 0x0806) ∷ IsNot (run 136 16 0x8100)
     ∷ IsNot (run 136 16 0x88a8) ∷ IsNot (run 136 16 0x8808) ∷ IsNot (run 136 16 0x8809)
-    ∷ Is (run 152 8 0) ∷ Is (run 160 8 0) ∷ Is (run 168 32 0) ∷ Is (run 200 32 0)
+    ∷ []
+
+-- neither protocol, addresses nor ports
+abbrev pub no_network_fields : List Condition
+no_network_fields =
+    Is (run 152 8 0) ∷ Is (run 160 8 0) ∷ Is (run 168 32 0) ∷ Is (run 200 32 0) ∷ Is (run 232 16 0) ∷ Is (run 248 16 0) ∷ []
+
+-- what the class asks: the type of IPv4 and the protocol; of ICMP also a type and a code below 256; or none of these
+-- protocols, and no ports; or a plain type, and nothing else
+abbrev pub form_of : Class → List Condition
+form_of Tcp = Is (run 136 16 0x0800) ∷ Is (run 160 8 6) ∷ []
+form_of Udp = Is (run 136 16 0x0800) ∷ Is (run 160 8 17) ∷ []
+form_of Icmp = Is (run 136 16 0x0800) ∷ Is (run 160 8 1) ∷ Is (run 232 8 0) ∷ Is (run 248 8 0) ∷ []
+form_of OtherIpv4 =
+    Is (run 136 16 0x0800) ∷ IsNot (run 160 8 1) ∷ IsNot (run 160 8 6) ∷ IsNot (run 160 8 17)
     ∷ Is (run 232 16 0) ∷ Is (run 248 16 0) ∷ []
+form_of Plain = plain_type ++ no_network_fields
 
 -- what is asked whatever the class: the port and the tag, a VLAN priority below 8, a source that is one station, a
 -- destination that is neither the mark of dropped packets nor one that bridges keep to themselves, whose upper 44 bits

@@ -1,5 +1,9 @@
 //! Conditions on a header.
 
+ghost use Rattle.std.specs.Prelude.{◌≡◌};
+ghost use Rattle.mon_literals.specs.declared.condition.Condition.TheVariants.{Is, IsNot};
+ghost use Rattle.mon_literals.specs.Runs.{run};
+
 use crate::run::Run;
 
 /// A run of a header's bits spells its number, or does not.
@@ -7,4 +11,24 @@ use crate::run::Run;
 pub enum Condition {
     Is(Run),
     IsNot(Run),
+}
+
+pub(crate) fn is(start: u16, count: u16, number: u64) -> Condition
+    ensures { result ≡ Is (run start count number) }
+{
+    Condition::Is(Run {
+        start,
+        count,
+        number,
+    })
+}
+
+pub(crate) fn is_not(start: u16, count: u16, number: u64) -> Condition
+    ensures { result ≡ IsNot (run start count number) }
+{
+    Condition::IsNot(Run {
+        start,
+        count,
+        number,
+    })
 }

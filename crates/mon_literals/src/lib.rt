@@ -4,13 +4,19 @@
 //! bits and the number that they spell is a list of literals, and all that is said of a header is said by runs.
 #![tactic(auto)]
 
+mod bearing;
+mod classes;
 mod clauses;
 mod condition;
+mod differing;
 mod matching;
 mod run;
 
+pub use bearing::borne;
+pub use classes::push_class;
 pub use clauses::push_alone;
 pub use condition::Condition;
+pub use differing::differ;
 pub use matching::pattern;
 pub use mon_cnf::OutOfMemory;
 pub use run::Run;
