@@ -1,0 +1,22 @@
+//! The words of the command line.
+//!
+//! `read_words` gives the command that the words spell, by the grammar of `specs/Words.antt`: a command, then names and
+//! options in any order, each option at most once, where `--` ends the options. It refuses exactly the words that spell
+//! no command, and no words spell two.
+//!
+//! The words are read once, from the first to the last, as a list of names and options, and the command is what these
+//! ask for. `replay` takes no options today, so its names may not begin with `-`, unless they are `-`.
+#![tactic(auto)]
+
+mod argument;
+mod command;
+mod fault;
+mod given;
+mod options;
+mod reading;
+#[cfg(test)]
+mod tests;
+
+pub use command::{Command, Source, read_words};
+pub use fault::WordsFault;
+pub use mon_world::Text;
