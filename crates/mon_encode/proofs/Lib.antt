@@ -1,0 +1,12 @@
+pub mod Truth
+pub mod Chain
+pub mod Winning
+pub mod Possible
+pub mod Fitting
+pub mod Emitting
+pub mod Exact
+pub mod Updating
+pub mod Casing
+pub mod Covering
+pub mod Deciding
+pub mod Helping

@@ -1,3 +1,4 @@
 pub mod Cases
 pub mod Clauses
 pub mod Formulas
+pub mod Keeping

@@ -28,13 +28,13 @@ use Rattle.mon_job.specs.declared.verdict.Says.{Says}
 use Rattle.mon_job.specs.declared.verdict.Says.TheVariants.{Probe, Indistinguishable, Skipped, NoMemory}
 
 -- what takes an update back edits a rule of the update's identity
-back-identity : (x : Target) → ReplacesItsOwn x → identity_of (edited (taken_back x)) ≡ identity_of (updated x)
+pub back-identity : (x : Target) → ReplacesItsOwn x → identity_of (edited (taken_back x)) ≡ identity_of (updated x)
 back-identity (Put r None) own = refl
 back-identity (Put r (Some old)) own = own
 back-identity (Cut r) own = refl
 back-identity (Watch r) own = refl
 
-back-match : (x : Target) → ReplacesItsOwn x → (edited (taken_back x)).matching ≡ (updated x).matching
+pub back-match : (x : Target) → ReplacesItsOwn x → (edited (taken_back x)).matching ≡ (updated x).matching
 back-match x own = ap (λ (i : Identity). i.matching) (back-identity x own)
 
 -- a header that the match takes
@@ -55,11 +55,11 @@ among-whole e (m ∷ ms) y = ⊎_elim
     (λ a. or_right _ _ (among-whole e ms a))
     (or_cases (m.1 && same_emission m.0 e) _ y)
 
-must-may : (actions : List Action) (h : Header) (e : Emission) → must actions h e ≡ true → may actions h e ≡ true
+pub must-may : (actions : List Action) (h : Header) (e : Emission) → must actions h e ≡ true → may actions h e ≡ true
 unfolding must may
 must-may actions h e y = or_right _ _ (among-whole e (emissions actions h) (and_parts (not (any_unknown actions)) _ y).1)
 
-sure-possible : (ws : List Rule) (h : Header) (e : Emission) → is_sure ws h e ≡ true → is_possible ws h e ≡ true
+pub sure-possible : (ws : List Rule) (h : Header) (e : Emission) → is_sure ws h e ≡ true → is_possible ws h e ≡ true
 sure-possible [] h e y = y
 sure-possible (r ∷ []) h e y = or_left _ _ (must-may r.actions h e y)
 sure-possible (r ∷ s ∷ rest) h e y = absurd (false≢true y)
@@ -75,7 +75,7 @@ not-put y h r n m p = false≢true (sym n ∙ subst (λ (s : Rule). matches s.ma
 other-rule : (y : Edit) (h : Header) (r : Rule) → matches (edited y).matching h ≡ false → matches r.matching h ≡ true → same_identity (identity_of r) (identity_of (edited y)) ≡ false
 other-rule y h r n m = false_from_ne_true _ (λ s. false≢true (sym n ∙ subst (λ (i : Identity). matches i.matching h ≡ true) (same-is (identity_of r) (identity_of (edited y)) s) m))
 
-edited-elsewhere : (t : List Rule) (y : Edit) (h : Header) → matches (edited y).matching h ≡ false → SameAt h (after t y) t
+pub edited-elsewhere : (t : List Rule) (y : Edit) (h : Header) → matches (edited y).matching h ≡ false → SameAt h (after t y) t
 edited-elsewhere t y h n = record {
   there = λ r m i. ⊎_elim (λ p. absurd (not-put y h r n m p)) (λ l. l.0) (after-members t y r i);
   back = λ r m i. members-after t y r (inr (i, other-rule y h r n m));
