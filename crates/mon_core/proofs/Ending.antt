@@ -5,17 +5,16 @@ use Rattle.std.proofs.lemmas.List.{get_or-set_same, get_or-set_other, length-app
 use Rattle.std.proofs.Math.ListN.{length-set}
 use Rattle.std.proofs.lemmas.Bool.Decides.{eqb_tells}
 use Rattle.of_frame.specs.declared.fault.FrameFault.{FrameFault}
-use Rattle.of_frame.specs.Cut.{Pending, cut}
 use Rattle.mon_world.specs.declared.event.Side.{Side}
-use Rattle.mon_world.specs.declared.event.Side.TheVariants.{Controller, Switch}
 use Rattle.mon_world.specs.declared.event.Event.TheVariants.{Opened, Piece, Stop}
 use Rattle.mon_world.specs.declared.event.Out.{Out}
 use Rattle.mon_world.specs.declared.event.Out.TheVariants.{Send, Close}
 use Rattle.mon_world.specs.declared.history.Entry.{Entry}
 use Rattle.mon_world.specs.declared.history.Entry.TheVariants.{Given, Put, End}
 use Rattle.mon_world.specs.Logs.{opened_in}
-use Rattle.mon_core.specs.History.{Sides, fresh, pending_of, with_pending, after_piece, closed, other, sent, ending, from_piece, session_at, sessions, owed, rest_of, IsFirst, LegalSoFar, Named}
+use Rattle.mon_core.specs.History.{Sides, fresh, grown, completed, fault_after, after_piece, closed, ending, from_side, from_piece, session_at, sessions, owed, rest_of, IsFirst, LegalSoFar, Named}
 use Rattle.mon_core.specs.Streams.{has_ended}
+use Rattle.mon_core.proofs.Sends.{AllSends, sends-side}
 
 -- there are as many sessions as were opened
 pub opened-in : (h : List Entry) → length (sessions h) ≡ opened_in h
@@ -38,16 +37,21 @@ EndsWithin k [] = Unit {0}
 EndsWithin k (Send m to frame ∷ outs) = EndsWithin k outs
 EndsWithin k (Close m ∷ outs) = (m < k) × EndsWithin k outs
 
-sent-within : (k n : ℕ) (to : Side) (frames : List (List ℕ)) (fault : Option FrameFault) → n < k → EndsWithin k (sent n to frames ++ ending n fault)
-sent-within k n to [] None lt = tt
-sent-within k n to [] (Some fault) lt = (lt, tt)
-sent-within k n to (f ∷ fs) fault lt = sent-within k n to fs fault lt
+within-append : (k : ℕ) (outs more : List Out) → AllSends outs → EndsWithin k more → EndsWithin k (outs ++ more)
+within-append k [] more sends w = w
+within-append k (Send m to frame ∷ outs) more sends w = within-append k outs more sends w
+within-append k (Close m ∷ outs) more sends w = absurd sends
+
+ending-within : (k n : ℕ) (fault : Option FrameFault) → n < k → EndsWithin k (ending n fault)
+ending-within k n None lt = tt
+ending-within k n (Some fault) lt = (lt, tt)
 
 piece-within : (k n : ℕ) (s : Sides) (from : Side) (bytes : List ℕ) → n < k → EndsWithin k (from_piece n s from bytes)
 piece-within k n s from bytes lt =
-    elim s.ended as (λ b. EndsWithin k (cond b [] (sent n (other from) (cut (pending_of s from) bytes).1 ++ ending n (cut (pending_of s from) bytes).0.fault))) [
+    let led = from_side n s.table from (completed s from bytes) in
+    elim s.ended as (λ b. EndsWithin k (cond b [] (led ++ ending n (fault_after s from bytes)))) [
       | true ↦ tt
-      | false ↦ sent-within k n (other from) (cut (pending_of s from) bytes).1 (cut (pending_of s from) bytes).0.fault lt
+      | false ↦ within-append k led (ending n (fault_after s from bytes)) (sends-side n s.table from (completed s from bytes)) (ending-within k n (fault_after s from bytes) lt)
     ]
 
 rest-within : (k : ℕ) (outs : List Out) → EndsWithin k outs → EndsWithin k (rest_of outs)
@@ -76,16 +80,9 @@ session-opened [] (suc n) = refl
 session-opened (x ∷ xs) zero = refl
 session-opened (x ∷ xs) (suc n) = session-opened xs n
 
-with_pending-ended : (s : Sides) (side : Side) (p : Pending) → (with_pending s side p).ended ≡ s.ended
-with_pending-ended s Controller p = refl
-with_pending-ended s Switch p = refl
-
 after_piece-ended : (s : Sides) (from : Side) (bytes : List ℕ) → (after_piece s from bytes).ended ≡ s.ended
 after_piece-ended s from bytes =
-    elim s.ended as (λ b. (cond b s (with_pending s from (cut (pending_of s from) bytes).0)).ended ≡ s.ended) [
-      | true ↦ refl
-      | false ↦ with_pending-ended s from (cut (pending_of s from) bytes).0
-    ]
+    elim s.ended as (λ b. (cond b s (grown s from bytes)).ended ≡ s.ended) [ true ↦ refl | false ↦ refl ]
 
 -- the session at n, where that at m is replaced
 pub set-at : (xs : List Sides) (m n : ℕ) (s : Sides) → m < length xs → ((m == n) ≡ true) × (session_at (set xs m s) n ≡ s) × (m ≡ n) ⊎ ((m == n) ≡ false) × (session_at (set xs m s) n ≡ session_at xs n)

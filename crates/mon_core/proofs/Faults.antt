@@ -13,19 +13,22 @@ use Rattle.mon_world.specs.declared.event.Out.{Out}
 use Rattle.mon_world.specs.declared.event.Out.TheVariants.{Send, Close}
 use Rattle.mon_world.specs.declared.history.Entry.{Entry}
 use Rattle.mon_world.specs.declared.history.Entry.TheVariants.{Given, Put, End}
-use Rattle.mon_core.specs.History.{Sides, fresh, pending_of, after_piece, closed, other, sent, ending, from_piece, session_at, sessions, owed, rest_of, IsFirst, LegalSoFar, Legal, Named}
+use Rattle.mon_table.specs.declared.rule.Rule.{Rule}
+use Rattle.mon_core.proofs.Sends.{AllSends, sends-side}
+use Rattle.mon_core.specs.History.{Sides, fresh, completed, fault_after, after_piece, closed, ending, from_side, from_piece, session_at, sessions, owed, rest_of, IsFirst, LegalSoFar, Legal, Named}
 use Rattle.mon_core.specs.Streams.{is_faulty, IsPassed, BeforeInputs, AtTurnEnds}
 use Rattle.mon_core.proofs.Ending.{closes, set-at, session-opened, opened-in, ended-is, first-within, owed-within}
-use Rattle.mon_core.proofs.Passing.{frames-passed, pending-is}
+use Rattle.mon_core.proofs.Passing.{frames-passed, frames-brought, pending-is}
 
 -- a side has a fault
 abbrev faulted : Sides → Bool
 faulted s = is_some s.controller.fault || is_some s.switch.fault
 
 -- the outputs of a piece end its session where it leaves a fault
-closes-sent : (n m : ℕ) (to : Side) (frames : List (List ℕ)) (outs : List Out) → closes n (sent m to frames ++ outs) ≡ closes n outs
-closes-sent n m to [] outs = refl
-closes-sent n m to (f ∷ fs) outs = closes-sent n m to fs outs
+closes-sends : (n : ℕ) (outs more : List Out) → AllSends outs → closes n (outs ++ more) ≡ closes n more
+closes-sends n [] more sends = refl
+closes-sends n (Send m to frame ∷ outs) more sends = closes-sends n outs more sends
+closes-sends n (Close m ∷ outs) more sends = absurd sends
 
 closes-ending : (n : ℕ) (fault : Option FrameFault) → closes n (ending n fault) ≡ is_some fault
 closes-ending n None = refl
@@ -35,12 +38,16 @@ closes-other : (n m : ℕ) (fault : Option FrameFault) → (m == n) ≡ false �
 closes-other n m None off = refl
 closes-other n m (Some fault) off = rw off refl
 
+-- the outputs of a piece of a session that has not ended
+closes-piece : (n m : ℕ) (s : Sides) (from : Side) (bytes : List ℕ) → closes n (from_side m s.table from (completed s from bytes) ++ ending m (fault_after s from bytes)) ≡ closes n (ending m (fault_after s from bytes))
+closes-piece n m s from bytes =
+    closes-sends n (from_side m s.table from (completed s from bytes)) (ending m (fault_after s from bytes)) (sends-side m s.table from (completed s from bytes))
+
 other-piece : (n m : ℕ) (s : Sides) (from : Side) (bytes : List ℕ) → (m == n) ≡ false → closes n (from_piece m s from bytes) ≡ false
 other-piece n m s from bytes off =
-    let found = cut (pending_of s from) bytes in
-    elim s.ended as (λ b. closes n (cond b [] (sent m (other from) found.1 ++ ending m found.0.fault)) ≡ false) [
+    elim s.ended as (λ b. closes n (cond b [] (from_side m s.table from (completed s from bytes) ++ ending m (fault_after s from bytes))) ≡ false) [
       | true ↦ refl
-      | false ↦ closes-sent n m (other from) found.1 (ending m found.0.fault) ∙ closes-other n m found.0.fault off
+      | false ↦ closes-piece n m s from bytes ∙ closes-other n m (fault_after s from bytes) off
     ]
 
 -- neither side of a session that has not ended had a fault
@@ -49,17 +56,17 @@ none-before true b e = absurd (true≢false (sym e))
 none-before false b e = (refl, sym e)
 
 -- a piece of the session itself
-own-piece : (n : ℕ) (c w : Pending) (ended : Bool) (from : Side) (bytes : List ℕ) → let s : Sides = record { controller = c; switch = w; ended = ended } in
+own-piece : (n : ℕ) (c w : Pending) (t : List Rule) (ended : Bool) (from : Side) (bytes : List ℕ) → let s : Sides = record { controller = c; switch = w; table = t; ended = ended } in
     ended ≡ faulted s → ((after_piece s from bytes).ended || closes n (from_piece n s from bytes)) ≡ faulted (after_piece s from bytes)
-own-piece n c w true from bytes e = e
-own-piece n c w false Controller bytes e =
-    let found = cut c bytes in
-    closes-sent n n Switch found.1 (ending n found.0.fault) ∙ closes-ending n found.0.fault
-    ∙ sym (ap (λ (b : Bool). is_some found.0.fault || b) (none-before (is_some c.fault) (is_some w.fault) e).1 ∙ or-false (is_some found.0.fault))
-own-piece n c w false Switch bytes e =
-    let found = cut w bytes in
-    closes-sent n n Controller found.1 (ending n found.0.fault) ∙ closes-ending n found.0.fault
-    ∙ sym (ap (λ (b : Bool). b || is_some found.0.fault) (none-before (is_some c.fault) (is_some w.fault) e).0)
+own-piece n c w t true from bytes e = e
+own-piece n c w t false Controller bytes e =
+    let fault = (cut c bytes).0.fault in
+    closes-piece n n (record { controller = c; switch = w; table = t; ended = false }) Controller bytes ∙ closes-ending n fault
+    ∙ sym (ap (λ (b : Bool). is_some fault || b) (none-before (is_some c.fault) (is_some w.fault) e).1 ∙ or-false (is_some fault))
+own-piece n c w t false Switch bytes e =
+    let fault = (cut w bytes).0.fault in
+    closes-piece n n (record { controller = c; switch = w; table = t; ended = false }) Switch bytes ∙ closes-ending n fault
+    ∙ sym (ap (λ (b : Bool). b || is_some fault) (none-before (is_some c.fault) (is_some w.fault) e).0)
 
 -- the session's end was put or is owed exactly where a side has a fault
 abbrev Ending : ℕ → List Entry → Type 0
@@ -96,7 +103,7 @@ ending-is n (Given (Piece m from bytes) ∷ h) named legal =
     elim (set-at (sessions h) m n after (subst (λ (k : ℕ). m < k) (sym (opened-in h)) named.0)) as (λ _. Ending n (Given (Piece m from bytes) ∷ h)) [
       | inl is ↦
           let own : (after.ended || closes m (from_piece m s from bytes)) ≡ faulted after =
-          own-piece m s.controller s.switch s.ended from bytes (as-whole m h legal.0 (ending-is m h named.1 legal.1)) in
+          own-piece m s.controller s.switch s.table s.ended from bytes (as-whole m h legal.0 (ending-is m h named.1 legal.1)) in
           rw (is.1) (subst (λ (k : ℕ). (after.ended || closes k (from_piece m s from bytes)) ≡ faulted after) is.2 own)
       | inr off ↦
           rw (off.1, other-piece n m s from bytes off.0) (or-false (session_at (sessions h) n).ended ∙ as-whole n h legal.0 (ending-is n h named.1 legal.1))
@@ -118,7 +125,8 @@ ending-is n (End m ∷ h) named legal =
 
 is-passed : (h : List Entry) → Named h → Legal h → IsPassed h
 is-passed h named legal = record {
-  frames = λ n side. frames-passed n side h named legal;
+  to_switch = λ n. frames-passed n h named legal;
+  to_controller = λ n. frames-brought n h named legal;
   ends = λ n. sym (ended-is n h named legal.so_far) ∙ as-whole n h legal.whole (ending-is n h named legal.so_far)
       ∙ ap (λ (p : Pending). is_some p.fault || is_some (session_at (sessions h) n).switch.fault) (pending-is n Controller h named legal.so_far)
       ∙ ap (λ (p : Pending). is_faulty n Controller h || is_some p.fault) (pending-is n Switch h named legal.so_far);

@@ -1,4 +1,8 @@
+pub mod Refusing
+pub mod Parting
+pub mod Sends
 pub mod Turns
 pub mod Ending
 pub mod Passing
+pub mod Arming
 pub mod Faults

@@ -5,7 +5,9 @@ use Rattle.std.proofs.lemmas.List.{append-nil, get_or-set_same, take-append-drop
 use Rattle.std.proofs.Math.ListN.{length-set}
 use Rattle.std.proofs.Math.Seq.{take-length}
 use Rattle.of_frame.specs.declared.fault.FrameFault.{FrameFault}
-use Rattle.of_frame.specs.Cut.{Pending, cut}
+use Rattle.std.specs.Option.{is_some}
+use Rattle.of_frame.specs.Cut.{Pending}
+use Rattle.mon_table.specs.declared.rule.Rule.{Rule}
 use Rattle.mon_world.specs.declared.event.Side.{Side}
 use Rattle.mon_world.specs.declared.event.Event.{Event}
 use Rattle.mon_world.specs.declared.event.Event.TheVariants.{Opened, Piece, Stop}
@@ -15,7 +17,8 @@ use Rattle.mon_world.specs.declared.history.Entry.{Entry}
 use Rattle.mon_world.specs.declared.history.Entry.TheVariants.{Given, Put, End}
 use Rattle.mon_world.specs.Logs.{entry_of, longer, opened_by, opened_in, NamesOpened, inputs, IsStop, NoStop, StopsNow}
 use Rattle.mon_core.proofs.Ending.{opened-in}
-use Rattle.mon_core.specs.History.{Sides, fresh, closed, closed_if, with_pending, pending_of, other, after_piece, after_turn, from_piece, sent, ending, session_at, on_event, sessions, owed, rest_of, IsFirst, LegalSoFar, Legal, Named, StandsFor, WasGiven, onto, logged, Ran, RanToStop}
+use Rattle.mon_core.proofs.Sends.{AllSends, sends-side}
+use Rattle.mon_core.specs.History.{Sides, fresh, closed, grown, controller_after, switch_after, table_after, completed, fault_after, after_piece, after_turn, from_side, from_piece, ending, session_at, on_event, sessions, owed, rest_of, IsFirst, LegalSoFar, Legal, Named, StandsFor, WasGiven, onto, logged, Ran, RanToStop}
 
 pub onto-more : (outs : List Out) (out : Out) (h : List Entry) → onto (outs ++ out ∷ []) h ≡ entry_of out ∷ onto outs h
 onto-more [] out h = refl
@@ -48,9 +51,10 @@ sessions-onto [] h = refl
 sessions-onto (Send n to frame ∷ outs) h = sessions-onto outs (Put n to frame ∷ h)
 sessions-onto (Close n ∷ outs) h = sessions-onto outs (End n ∷ h)
 
-after_sent : (n : ℕ) (to : Side) (frames : List (List ℕ)) (outs : List Out) (core : List Sides) → after_outs (sent n to frames ++ outs) core ≡ after_outs outs core
-after_sent n to [] outs core = refl
-after_sent n to (frame ∷ frames) outs core = after_sent n to frames outs core
+after-sends : (outs more : List Out) (core : List Sides) → AllSends outs → after_outs (outs ++ more) core ≡ after_outs more core
+after-sends [] more core sends = refl
+after-sends (Send n to frame ∷ outs) more core sends = after-sends outs more core sends
+after-sends (Close n ∷ outs) more core sends = absurd sends
 
 -- the second write stands
 set-set : {A : Type 0} (xs : List A) (i : ℕ) (x y : A) → set (set xs i x) i y ≡ set xs i y
@@ -58,21 +62,25 @@ set-set [] i x y = refl
 set-set (z ∷ xs) zero x y = refl
 set-set (z ∷ xs) (suc i) x y = ap (λ (t : List _). z ∷ t) (set-set xs i x y)
 
-after_ending : (core : List Sides) (n : ℕ) (session : Sides) (fault : Option FrameFault) → n < length core
-    → after_outs (ending n fault) (slice_set core n session) ≡ slice_set core n (closed_if fault session)
-after_ending core n session None lt = refl
-after_ending core n session (Some fault) lt = rw (get_or-set_same core n session fresh lt) (set-set core n session (closed session))
+after_ending : (core : List Sides) (n : ℕ) (controller switch : Pending) (table : List Rule) (fault : Option FrameFault) → n < length core
+    → let session : Bool → Sides = λ ended. record { controller = controller; switch = switch; table = table; ended = ended } in
+    after_outs (ending n fault) (slice_set core n (session false)) ≡ slice_set core n (session (is_some fault))
+after_ending core n controller switch table None lt = refl
+after_ending core n controller switch table (Some fault) lt =
+    let session : Sides = record { controller = controller; switch = switch; table = table; ended = false } in
+    rw (get_or-set_same core n session fresh lt) (set-set core n session (closed session))
 
 -- the session that the history gives after a piece, once all that it leads to is put out
-after_turn_is : (core : List Sides) (n : ℕ) (controller switch : Pending) (ended : Bool) (side : Side) (bytes : List ℕ) → n < length core
-    → let session : Sides = record { controller = controller; switch = switch; ended = ended } in
+after_turn_is : (core : List Sides) (n : ℕ) (controller switch : Pending) (table : List Rule) (ended : Bool) (side : Side) (bytes : List ℕ) → n < length core
+    → let session : Sides = record { controller = controller; switch = switch; table = table; ended = ended } in
     after_outs (from_piece n session side bytes) (slice_set core n (after_piece session side bytes)) ≡ slice_set core n (after_turn session side bytes)
-after_turn_is core n controller switch true side bytes lt = refl
-after_turn_is core n controller switch false side bytes lt =
-    let session : Sides = record { controller = controller; switch = switch; ended = false } in
-    let found = cut (pending_of session side) bytes in
-    after_sent n (other side) found.1 (ending n found.0.fault) (slice_set core n (with_pending session side found.0))
-    ∙ after_ending core n (with_pending session side found.0) found.0.fault lt
+after_turn_is core n controller switch table true side bytes lt = refl
+after_turn_is core n controller switch table false side bytes lt =
+    let session : Sides = record { controller = controller; switch = switch; table = table; ended = false } in
+    let frames = completed session side bytes in
+    let fault = fault_after session side bytes in
+    after-sends (from_side n table side frames) (ending n fault) (slice_set core n (grown session side bytes)) (sends-side n table side frames)
+    ∙ after_ending core n (controller_after controller side bytes) (switch_after switch side bytes) (table_after table side frames) fault lt
 
 -- what is owed after an event is what the model puts out
 owed-given : (event : Event) (h : List Entry) → owed (Given event ∷ h) ≡ (on_event event (sessions h)).1
@@ -87,7 +95,7 @@ unfolding on_event
 state-given Opened h names = refl
 state-given (Piece n side bytes) h names =
     let s = session_at (sessions h) n in
-    after_turn_is (sessions h) n s.controller s.switch s.ended side bytes names
+    after_turn_is (sessions h) n s.controller s.switch s.table s.ended side bytes names
 state-given Stop h names = refl
 
 legal-given : (event : Event) (h : List Entry) → Legal h → LegalSoFar (Given event ∷ h)

@@ -1,5 +1,6 @@
 -- What the history says of each session, what is owed to it, and which histories are legal. The newest entry is first.
-use Rattle.std.specs.Prelude.{◌≡◌, ℕ, ◌+◌, ◌<◌, Bool, true, false, List, [], ◌∷◌, ◌++◌, length, slice_index_or, slice_set, Option, Some, None, if◌then◌else◌}
+use Rattle.std.specs.Prelude.{◌≡◌, ℕ, suc, ◌+◌, ◌<◌, Bool, true, false, List, [], ◌∷◌, ◌++◌, length, slice_index_or, slice_set, Option, Some, None, if◌then◌else◌}
+use Rattle.std.specs.Option.{is_some}
 use Rattle.of_frame.specs.declared.fault.FrameFault.{FrameFault}
 use Rattle.of_frame.specs.Cut.{Pending, nothing_yet, cut}
 use Rattle.mon_world.specs.declared.event.Side.{Side}
@@ -10,32 +11,64 @@ use Rattle.mon_world.specs.declared.event.Out.{Out}
 use Rattle.mon_world.specs.declared.event.Out.TheVariants.{Send, Close}
 use Rattle.mon_world.specs.declared.history.Entry.{Entry}
 use Rattle.mon_world.specs.declared.history.Entry.TheVariants.{Given, Put, End}
+use Rattle.mon_table.specs.declared.rule.Rule.{Rule}
 use Rattle.mon_world.specs.Logs.{entry_of, inputs, opened_in, NoStop, StopsNow}
+use Rattle.mon_core.specs.Fates.{passed, errors, followed, followed_all}
 
--- what has come of both sides of a session, and whether it ended
+-- what has come of both sides of a session, the table of the entries that the controller has on the switch, and whether
+-- the session ended
 pub record Sides : Type 0 where
   pub controller : Pending
   pub switch : Pending
+  pub table : List Rule
   pub ended : Bool
 
 abbrev pub fresh : Sides
-fresh = record { controller = nothing_yet; switch = nothing_yet; ended = false }
+fresh = record { controller = nothing_yet; switch = nothing_yet; table = []; ended = false }
 
 abbrev pub pending_of : Sides → Side → Pending
 pending_of sides Controller = sides.controller
 pending_of sides Switch = sides.switch
 
-abbrev pub with_pending : Sides → Side → Pending → Sides
-with_pending sides Controller pending = record sides { controller = pending }
-with_pending sides Switch pending = record sides { switch = pending }
-
 abbrev pub other : Side → Side
 other Controller = Switch
 other Switch = Controller
 
+-- what is pending of the controller after a piece of a side
+abbrev pub controller_after : Pending → Side → List ℕ → Pending
+controller_after pending Controller bytes = (cut pending bytes).0
+controller_after pending Switch bytes = pending
+
+-- and of the switch
+abbrev pub switch_after : Pending → Side → List ℕ → Pending
+switch_after pending Controller bytes = pending
+switch_after pending Switch bytes = (cut pending bytes).0
+
+-- the table after frames of a side
+abbrev pub table_after : List Rule → Side → List (List ℕ) → List Rule
+table_after t Controller frames = followed_all t frames
+table_after t Switch frames = t
+
+-- the frames that a piece of a side completes
+abbrev pub completed : Sides → Side → List ℕ → List (List ℕ)
+completed sides side bytes = (cut (pending_of sides side) bytes).1
+
+-- the fault to which a piece of a side leads
+abbrev pub fault_after : Sides → Side → List ℕ → Option FrameFault
+fault_after sides side bytes = (cut (pending_of sides side) bytes).0.fault
+
+-- a piece came to a session that has not ended
+abbrev pub grown : Sides → Side → List ℕ → Sides
+grown sides side bytes = record {
+  controller = controller_after sides.controller side bytes;
+  switch = switch_after sides.switch side bytes;
+  table = table_after sides.table side (completed sides side bytes);
+  ended = sides.ended;
+}
+
 -- a piece came
 abbrev pub after_piece : Sides → Side → List ℕ → Sides
-after_piece sides side bytes = if sides.ended then sides else with_pending sides side (cut (pending_of sides side) bytes).0
+after_piece sides side bytes = if sides.ended then sides else grown sides side bytes
 
 abbrev pub closed : Sides → Sides
 closed sides = record sides { ended = true }
@@ -60,22 +93,31 @@ abbrev pub ending : ℕ → Option FrameFault → List Out
 ending n None = []
 ending n (Some fault) = Close n ∷ []
 
--- what a piece leads to: each frame that it completes goes to the other side, and a fault ends the session
+-- what a frame of the controller leads to, by the table: frames for the switch, or an ERROR for the controller
+abbrev pub from_frame : ℕ → List Rule → List ℕ → List Out
+from_frame n t frame = sent n Switch (passed t frame) ++ sent n Controller (errors t frame)
+
+-- each over the table that those before it leave
+abbrev pub from_frames : ℕ → List Rule → List (List ℕ) → List Out
+from_frames n t [] = []
+from_frames n t (frame ∷ frames) = from_frame n t frame ++ from_frames n (followed t frame) frames
+
+-- what frames of a side lead to: those of the switch go to the controller
+abbrev pub from_side : ℕ → List Rule → Side → List (List ℕ) → List Out
+from_side n t Controller frames = from_frames n t frames
+from_side n t Switch frames = sent n Controller frames
+
+-- what a piece leads to: what the frames lead to that it completes, and a fault ends the session
 abbrev pub from_piece : ℕ → Sides → Side → List ℕ → List Out
 from_piece n sides side bytes =
     if sides.ended then []
-    else (let found = cut (pending_of sides side) bytes in sent n (other side) found.1 ++ ending n found.0.fault)
+    else from_side n sides.table side (completed sides side bytes) ++ ending n (fault_after sides side bytes)
 
--- a session with a fault ends
-abbrev pub closed_if : Option FrameFault → Sides → Sides
-closed_if None sides = sides
-closed_if (Some fault) sides = closed sides
-
--- the session after a piece and all that it leads to
+-- the session after a piece and all that it leads to: one with a fault has ended
 abbrev pub after_turn : Sides → Side → List ℕ → Sides
 after_turn sides side bytes =
     if sides.ended then sides
-    else (let found = cut (pending_of sides side) bytes in closed_if found.0.fault (with_pending sides side found.0))
+    else record (grown sides side bytes) { ended = is_some (fault_after sides side bytes) }
 
 -- what a turn makes of the state: the state after the event and what is put out, in order.
 unfoldable pub on_event : Event → List Sides → List Sides × List Out
@@ -156,3 +198,12 @@ abbrev pub RanToStop : Option (List Entry) → Option (List Entry) → Type 0
 RanToStop None now = now ≡ None
 RanToStop (Some h) None = ⊥
 RanToStop (Some h) (Some k) = NoStop (inputs h) → StopsNow (inputs k)
+
+-- the number and the table of each session that has not ended, by rising number from a first one on
+abbrev pub armed_from : ℕ → List Sides → List (ℕ × List Rule)
+armed_from n [] = []
+armed_from n (sides ∷ core) = if sides.ended then armed_from (suc n) core else (n, sides.table) ∷ armed_from (suc n) core
+
+-- those of a core
+abbrev pub armed : List Sides → List (ℕ × List Rule)
+armed core = armed_from 0 core

@@ -1,5 +1,5 @@
 -- What a history says of the frames and the end of a session, in the subject's own words.
-use Rattle.std.specs.Prelude.{◌≡◌, ℕ, Bool, true, false, not, ◌==◌, ◌&&◌, ◌||◌, List, [], ◌∷◌, ◌++◌, if◌then◌else◌}
+use Rattle.std.specs.Prelude.{◌≡◌, ℕ, zero, suc, Bool, true, false, not, ◌==◌, ◌&&◌, ◌||◌, List, [], ◌∷◌, ◌++◌, if◌then◌else◌}
 use Rattle.std.specs.Option.{is_some}
 use Rattle.of_frame.specs.Cut.{nothing_yet, cut}
 use Rattle.mon_world.specs.declared.event.Side.{Side}
@@ -7,7 +7,11 @@ use Rattle.mon_world.specs.declared.event.Side.TheVariants.{Controller, Switch}
 use Rattle.mon_world.specs.declared.event.Event.TheVariants.{Opened, Piece, Stop}
 use Rattle.mon_world.specs.declared.history.Entry.{Entry}
 use Rattle.mon_world.specs.declared.history.Entry.TheVariants.{Given, Put, End}
-use Rattle.mon_core.specs.History.{other}
+use Rattle.mon_world.specs.Logs.{opened_in}
+use Rattle.mon_table.specs.declared.rule.Rule.{Rule}
+use Rattle.mon_table.specs.declared.edit.Edit.{Edit}
+use Rattle.mon_edits.specs.Laws.{after_all}
+use Rattle.mon_core.specs.Fates.{passed_all, errors_all, edits_all}
 
 abbrev pub same_side : Side → Side → Bool
 same_side Controller Controller = true
@@ -43,11 +47,54 @@ puts n to (End m ∷ h) = puts n to h
 abbrev pub is_faulty : ℕ → Side → List Entry → Bool
 is_faulty n side h = is_some (cut nothing_yet (stream n side h)).0.fault
 
--- all frames of each side's whole stream were put to the other side, in order, and nothing else was;
--- and a session was ended exactly where a stream has a fault
+-- the frames of the side's whole stream
+abbrev pub frames_in : ℕ → Side → List Entry → List (List ℕ)
+frames_in n side h = (cut nothing_yet (stream n side h)).1
+
+-- the frames that a piece completes, which comes next from the side
+abbrev pub next_frames : ℕ → Side → List ℕ → List Entry → List (List ℕ)
+next_frames n side bytes h = (cut (cut nothing_yet (stream n side h)).0 bytes).1
+
+-- the edits that went to the switch: those of all frames of the controller, in order
+abbrev pub edits_in : ℕ → List Entry → List Edit
+edits_in n h = edits_all [] (frames_in n Controller h)
+
+-- the entries that the controller should have on the switch: what these edits make of none
+abbrev pub expected : ℕ → List Entry → List Rule
+expected n h = after_all [] (edits_in n h)
+
+-- what a piece leads to at the controller: the ERRORs for frames of its own that are refused over the expected entries,
+-- or the frames of the switch
+abbrev pub brought : ℕ → Side → List ℕ → List Entry → List (List ℕ)
+brought n Controller bytes h = errors_all (expected n h) (next_frames n Controller bytes h)
+brought n Switch bytes h = next_frames n Switch bytes h
+
+-- what all pieces led to at the controller, turn by turn up to the end of the session
+abbrev pub brought_in : ℕ → List Entry → List (List ℕ)
+brought_in n [] = []
+brought_in n (Given Opened ∷ h) = brought_in n h
+brought_in n (Given (Piece m from bytes) ∷ h) =
+    if (m == n) && not (has_ended n h) then brought_in n h ++ brought n from bytes h else brought_in n h
+brought_in n (Given Stop ∷ h) = brought_in n h
+brought_in n (Put m to frame ∷ h) = brought_in n h
+brought_in n (End m ∷ h) = brought_in n h
+
+-- to the switch went what the fates give of all frames of the controller's whole stream, beginning with no entry;
+-- to the controller went, turn by turn, the frames of the switch and the ERRORs for what was refused; all in order, and
+-- nothing else; and a session was ended exactly where a stream has a fault
 pub record IsPassed (h : List Entry) : Type 0 where
-  pub frames : (n : ℕ) (side : Side) → puts n (other side) h ≡ (cut nothing_yet (stream n side h)).1
+  pub to_switch : (n : ℕ) → puts n Switch h ≡ passed_all [] (frames_in n Controller h)
+  pub to_controller : (n : ℕ) → puts n Controller h ≡ brought_in n h
   pub ends : (n : ℕ) → has_ended n h ≡ (is_faulty n Controller h || is_faulty n Switch h)
+
+-- the numbers below n of sessions that have not ended, rising, each with the expected entries
+abbrev pub armed_below : ℕ → List Entry → List (ℕ × List Rule)
+armed_below zero h = []
+armed_below (suc n) h = if has_ended n h then armed_below n h else armed_below n h ++ (n, expected n h) ∷ []
+
+-- the armed sessions by rising number, each with the expected entries: a session is armed from its opening to its end
+abbrev pub armed_in : List Entry → List (ℕ × List Rule)
+armed_in h = armed_below (opened_in h) h
 
 -- a fact holds wherever an earlier turn has ended, which is before each input
 abbrev pub BeforeInputs : (List Entry → Type 0) → List Entry → Type 0

@@ -1,20 +1,21 @@
 //! All sessions, and the loop.
 
-ghost use Rattle.std.specs.Prelude.{◌≡◌, ◌≢◌, ◌+◌, ◌≤◌, ℕ, List, Option, [], length, take, IfSome, OnOk, OnErr, IfOk, MatchBool};
+ghost use Rattle.std.specs.Prelude.{◌≡◌, ◌≢◌, ◌+◌, ◌≤◌, ℕ, List, Option, [], length, take, slice_get, IfSome, OnOk, OnErr, IfOk, MatchOption, MatchBool};
 ghost use Rattle.mon_world.specs.declared.event.Out.{Out};
 ghost use Rattle.mon_world.specs.Causes.{Rose};
 ghost use Rattle.mon_world.specs.Logs.{opened_by, NamesOpened, IsStop};
 ghost use Rattle.mon_world.specs.declared.history.Entry.{Entry};
-ghost use Rattle.mon_core.specs.Streams.{AtTurnEnds, IsPassed};
-ghost use Rattle.mon_core.specs.History.{Legal, Named, Sides, LegalSoFar, StandsFor, WasGiven, Ran, RanToStop, logged, on_event};
+ghost use Rattle.mon_core.specs.Streams.{AtTurnEnds, IsPassed, armed_in};
+ghost use Rattle.mon_core.specs.History.{Legal, Named, Sides, LegalSoFar, StandsFor, WasGiven, Ran, RanToStop, logged, on_event, sessions, armed};
 
 use crate::end::{LoopEnd, TurnEnd};
 use crate::session::Session;
+use mon_table::Table;
 use mon_world::{Event, Hub, HubFault, Out, OutOfMemory};
 use std::alloc::Global;
 use std::marker::Model;
 
-/// The sessions in the order of their openings.
+/// The sessions in the order of their openings. A session is armed from its opening until its end.
 #[derive(Drop)]
 pub struct Core {
     sessions: Vec<Session>,
@@ -48,6 +49,24 @@ impl Core {
         Core {
             sessions: Vec::new(alloc),
         }
+    }
+
+    /// The number of the armed session at a place, and the entries that its controller has on its switch. Places count
+    /// from 0 by rising number; there is None where there are no more. It takes no memory.
+    pub fn armed(&self, place: u32) -> Option<(u64, &Table)>
+        ensures { MatchOption result (length (armed self.now) ≤ place) (λ found. slice_get (armed self.now) place ≡ Some (found.0, found.1.now)) }
+    {
+        let mut ahead = place;
+        for (number, session) in self.sessions.iter().enumerate() {
+            if session.has_ended() {
+                continue;
+            }
+            if ahead == 0 {
+                return Some((number as u64, session.table()));
+            }
+            ahead -= 1;
+        }
+        None
     }
 
     /// What an event leads to.
@@ -128,8 +147,11 @@ pub fn run_loop<H: Hub>(alloc: Global, core: &mut Core, hub: &mut H, turns: u64)
     LoopEnd::TurnsUsed
 }
 
-/// In a legal history, wherever a turn has ended, each frame of a side's stream was put to the other side, in order,
-/// nothing else was, and a session was ended exactly where a side's stream has a fault.
+/// In a legal history, wherever a turn has ended, each frame of the controller's stream had its fate and no other, each
+/// frame of the switch's stream was put to the controller, all in order and in the turn in which they came, nothing else
+/// was put, and a session was ended exactly where a side's stream has a fault. A core that stands for the history shows
+/// the expected tables of the sessions that have not ended.
 pub fn legal_passes_frames()
-    ensures { (h : List Entry) → Named h → Legal h → AtTurnEnds IsPassed h }
+    ensures frames { (h : List Entry) → Named h → Legal h → AtTurnEnds IsPassed h }
+    ensures tables { (h : List Entry) → Named h → LegalSoFar h → armed (sessions h) ≡ armed_in h }
 {}
