@@ -25,7 +25,7 @@ use Rattle.mon_shows.specs.Views.{Viewing, IsView, has_link, craftable}
 use Rattle.mon_shows.specs.Separation.{is_miss, is_possible}
 use Rattle.mon_literals.specs.Patterns.{pattern_of}
 use Rattle.mon_literals.specs.Conditions.{class_clauses}
-use Rattle.mon_literals.specs.Runs.{alone}
+use Rattle.mon_literals.specs.Clauses.{alone}
 use Rattle.mon_encode.specs.Cases.{given}
 use Rattle.mon_encode.specs.Clauses.{unmatched, beaten, winning, chain, above, matched, or_hidden, hidden, not_missed}
 use Rattle.mon_encode.specs.Keeping.{AllActionsFit}

@@ -9,7 +9,7 @@ use Rattle.mon_header.specs.declared.header.Header.{Header}
 use Rattle.mon_header.specs.Matching.{matches}
 use Rattle.mon_table.specs.declared.rule.Rule.{Rule}
 use Rattle.mon_table.specs.Rules.{rank}
-use Rattle.mon_literals.specs.Runs.{opposite, denied, alone}
+use Rattle.mon_literals.specs.Clauses.{denied, alone}
 use Rattle.mon_literals.specs.Patterns.{pattern_of}
 use Rattle.mon_encode.specs.Clauses.{unmatched, beaten, or_apart}
 
@@ -48,7 +48,7 @@ and_no true = refl
 and_no false = refl
 
 -- literals denied, and alone
-pub opposite_true : (v : ℕ → Bool) (l : Lit) → lit_true v (opposite l) ≡ not (lit_true v l)
+opposite_true : (v : ℕ → Bool) (l : Lit) → lit_true v (record { var = l.var; positive = not l.positive }) ≡ not (lit_true v l)
 opposite_true v l = turned l.positive (v l.var)
 
 pub denied_true : (v : ℕ → Bool) (ls : List Lit) → clause_true v (denied ls) ≡ not (list_all (lit_true v) ls)

@@ -1,5 +1,5 @@
 -- What actions emit (OpenFlow 1.0.0, flow action structures).
-use Rattle.std.specs.Prelude.{◌≡◌, ℕ, Bool, true, false, not, ◌==◌, nat_le, ◌&&◌, ◌||◌, if◌then◌else◌, List, [], ◌∷◌, Option, Some, None}
+use Rattle.std.specs.Prelude.{◌≡◌, ℕ, zero, suc, Bool, true, false, not, ◌==◌, nat_le, ◌&&◌, ◌||◌, if◌then◌else◌, List, [], ◌∷◌, Option, Some, None}
 use Rattle.mon_header.specs.declared.class.Class.{Class}
 use Rattle.mon_header.specs.declared.header.Header.{Header}
 use Rattle.mon_header.specs.declared.action.Action.{Action}
@@ -80,6 +80,12 @@ with_emission (Some door) h rest = through door h ∷ rest
 abbrev pub emissions : List Action → Header → List Emitted
 emissions [] h = []
 emissions (action ∷ actions) h = with_emission (door_of action h.in_port) h (emissions actions (act action h))
+
+-- the emission at a position
+abbrev pub emission_at : List Emitted → ℕ → Option Emission
+emission_at [] position = None
+emission_at (m ∷ rest) zero = Some m.0
+emission_at (m ∷ rest) (suc position) = emission_at rest position
 
 -- two headers agree in each field
 unfoldable pub same_header : Header → Header → Bool

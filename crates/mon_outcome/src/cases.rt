@@ -5,7 +5,7 @@ ghost use Rattle.mon_header.specs.Actions.{FitsAction};
 use crate::act::apply;
 use crate::door::Door;
 use crate::emission::{Emission, same_emission};
-use crate::outcome::{may, must};
+use crate::outcome::{emission_at, may, must};
 use crate::rewrite::Bit;
 use crate::shape::rewrites;
 use mon_header::{Action, Actions, Class, Header, RawAction, same_header};
@@ -159,5 +159,34 @@ fn shapes_fix_what_actions_set(rt: HostRuntime) -> Result<(), Fail> {
             }
         }
     }
+    Ok(())
+}
+
+#[test]
+fn emissions_stand_in_list_order(rt: HostRuntime) -> Result<(), Fail> {
+    let mut actions = between(&rt, 2, 0)?;
+    actions.push(Action::SetTpSrc(9))?;
+    actions.push(Action::Output {
+        port: 0xfffd,
+        max_len: 64,
+    })?;
+    let seen = Header {
+        dl_src: 7,
+        ..DATAGRAM
+    };
+    let last = Header {
+        dl_vlan: 0xffff,
+        dl_vlan_pcp: 0,
+        tp_src: 9,
+        ..seen
+    };
+    let wanted = [Emission::Port(2, seen), Emission::Controller(last)];
+    for (position, e) in [0, 1].iter().zip(&wanted) {
+        match emission_at(&actions, &DATAGRAM, *position) {
+            Some(found) => assert!(rt; same_emission(&found, e), "{position}"),
+            None => assert!(rt; false, "{position}"),
+        }
+    }
+    assert!(rt; emission_at(&actions, &DATAGRAM, 2).is_none());
     Ok(())
 }

@@ -17,12 +17,12 @@ mod rewrite;
 mod shape;
 
 pub use act::apply;
-pub use door::Door;
+pub use door::{Door, any_unknown};
 pub use emission::{Emission, same_emission};
 pub use laws::{
     apply_keeps_the_class, emissions_keep_the_class, filled_bits_are_bits, same_emissions_are_equal,
 };
 pub use mon_header::{Class, OutOfMemory};
-pub use outcome::{may, must};
+pub use outcome::{emission_at, may, must};
 pub use rewrite::{Bit, Rewrite};
 pub use shape::{Shape, Shapes, rewrites};

@@ -1,7 +1,7 @@
 //! What a switch must emit, and what it may.
 
 ghost use Rattle.std.specs.Prelude.{◌≡◌};
-ghost use Rattle.mon_outcome.specs.Emitting.{through, emissions, is_among, is_among_whole, must, may};
+ghost use Rattle.mon_outcome.specs.Emitting.{through, emissions, emission_at, is_among, is_among_whole, must, may};
 
 use crate::act::act;
 use crate::door::{Door, any_unknown, door_of};
@@ -68,4 +68,24 @@ pub fn may(a: &Actions, h: &Header, e: &Emission) -> bool
     ensures { result ≡ may a.now h.now e.now }
 {
     any_unknown(a.items()) || emits(a.items(), h, e)
+}
+
+/// The emission at a position, counted from 0, among those that are known, in list order; `None` where there are fewer.
+/// It takes no memory.
+pub fn emission_at(a: &Actions, h: &Header, position: u32) -> Option<Emission>
+    ensures { result ≡ emission_at (emissions a.now h.now) position }
+{
+    let mut header = *h;
+    let mut left = position;
+    for action in a.items() {
+        if let Some(door) = door_of(action, header.in_port) {
+            if left == 0 {
+                let (emission, _) = through(door, header);
+                return Some(emission);
+            }
+            left -= 1;
+        }
+        header = act(action, header);
+    }
+    None
 }
