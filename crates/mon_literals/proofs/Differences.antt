@@ -6,11 +6,11 @@ use Rattle.mon_outcome.specs.Filling.{laid}
 use Rattle.mon_literals.specs.Differing.{either_differs, fields_differ, differ}
 
 -- how many bits the fields have
-abbrev widths : List (ℕ × Option ℕ) → ℕ
+abbrev pub widths : List (ℕ × Option ℕ) → ℕ
 widths [] = 0
 widths (field ∷ fields) = field.0 + widths fields
 
-laid_widths : (r : Rewrite) → widths (laid r) ≡ 264
+pub laid_widths : (r : Rewrite) → widths (laid r) ≡ 264
 unfolding laid
 laid_widths r = refl
 

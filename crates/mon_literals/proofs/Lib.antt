@@ -2,3 +2,11 @@ pub mod Running
 pub mod Reaching
 pub mod Values
 pub mod Differences
+pub mod Comparing
+pub mod Fields
+pub mod Patterns
+pub mod Truths
+pub mod Conditions
+pub mod Probes
+pub mod Apart
+pub mod Shapes

@@ -9,6 +9,7 @@ mod classes;
 mod clauses;
 mod condition;
 mod differing;
+pub mod laws;
 mod matching;
 mod run;
 
