@@ -9,4 +9,3 @@ pub mod Truths
 pub mod Conditions
 pub mod Probes
 pub mod Apart
-pub mod Shapes

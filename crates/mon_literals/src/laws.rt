@@ -1,20 +1,17 @@
 //! What the literals and clauses mean, whatever they are of. These functions do nothing: each is its law.
 
 ghost use Rattle.std.specs.Prelude.{◌≡◌, ◌<◌, ◌^◌, ◌++◌, ℕ, Bool, true, false, not, ◌==◌, ◌&&◌, List, Some, None};
-ghost use Rattle.std.specs.List.{list_all, AllByRecursion};
+ghost use Rattle.std.specs.List.{list_all};
 ghost use Rattle.mon_cnf.specs.declared.clause.Lit.{Lit};
 ghost use Rattle.mon_cnf.specs.Truth.{values_of, lit_true, clause_true, formula_true, Within, WithinAll};
-ghost use Rattle.mon_header.specs.declared.action.Action.{Action};
 ghost use Rattle.mon_header.specs.declared.class.Class.{Class};
 ghost use Rattle.mon_header.specs.declared.header.Header.{Header};
-ghost use Rattle.mon_header.specs.Actions.{AllFit};
 ghost use Rattle.mon_header.specs.Classes.{fits, is_in_class};
 ghost use Rattle.mon_header.specs.Matching.{Matching, IsNormal, matches};
 ghost use Rattle.mon_header.specs.Places.{header_bits};
 ghost use Rattle.mon_outcome.specs.declared.rewrite.Rewrite.{Rewrite};
 ghost use Rattle.mon_outcome.specs.Emitting.{same_header};
 ghost use Rattle.mon_outcome.specs.Filling.{filled};
-ghost use Rattle.mon_outcome.specs.Shaping.{shapes_of};
 ghost use Rattle.mon_shows.specs.Views.{Viewing, IsView, has_link, craftable};
 ghost use Rattle.mon_literals.specs.Bearing.{Bears, borne};
 ghost use Rattle.mon_literals.specs.Clauses.{denied, alone};
@@ -50,14 +47,12 @@ pub fn class_clauses_are_the_class()
 {}
 
 /// The clause of two rewrites is true exactly where what they make of the header differs, and there is none only where
-/// that always does. The rewrites of actions fit.
+/// that always does.
 pub fn clauses_that_differ()
     ensures sometimes { (v : ℕ → Bool) (h : Header) (a b : Rewrite) (d : List Lit) → Bears v h → FitsFields a → FitsFields b
         → differ a b ≡ Some d → clause_true v d ≡ not (same_header (filled a h) (filled b h)) }
     ensures always { (v : ℕ → Bool) (h : Header) (a b : Rewrite) → Bears v h → FitsFields a → FitsFields b
         → differ a b ≡ None → same_header (filled a h) (filled b h) ≡ false }
-    ensures fit { (actions : List Action) (c : Class) (in_port : ℕ) → AllFit actions
-        → AllByRecursion (λ s. FitsFields s.bits) (shapes_of actions c in_port) }
 {}
 
 /// The literals are of the variables of a header's bits.

@@ -1,5 +1,4 @@
 use Rattle.mon_literals.proofs.Apart.{differing_true, never_same}
-use Rattle.mon_literals.proofs.Shapes.{shapes_fit}
 use Rattle.mon_literals.proofs.laws.clauses_that_differ.Goals as goal
 
 pub returns-clause-sometimes : goal.returns-clause-sometimes
@@ -7,6 +6,3 @@ returns-clause-sometimes c = differing_true
 
 pub returns-clause-always : goal.returns-clause-always
 returns-clause-always c = never_same
-
-pub returns-clause-fit : goal.returns-clause-fit
-returns-clause-fit c = shapes_fit
