@@ -3,7 +3,8 @@ use Rattle.std.proofs.Common.{◌≡◌, ◌≢◌, ℕ, ◌+◌, ◌<◌, refl,
 use Rattle.std.specs.List.{flat_map, AllByRecursion}
 use Rattle.std.proofs.lemmas.List.{flat_map_more}
 use Rattle.mon_refute.specs.declared.number.Word.{Word}
-use Rattle.mon_refute.specs.Reading.{NoDigit, NoneAt, FoundAt, word_text, FitsWord, word_item, FitsSome}
+use Rattle.mon_text.specs.Numbers.{NoDigit, NoneAt, FoundAt}
+use Rattle.mon_refute.specs.Reading.{word_text, FitsWord, word_item, FitsSome}
 use Rattle.mon_refute.proofs.Words.{word_once, no_space}
 
 some_is : {Y : Type 0} (x y : Y) → ◌≡◌ {A = Option Y} (Some x) (Some y) → x ≡ y

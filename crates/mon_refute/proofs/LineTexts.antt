@@ -6,9 +6,10 @@ use Rattle.mon_cnf.specs.declared.clause.Lit.{Lit}
 use Rattle.mon_refute.specs.declared.lines.LogLine.{LogLine}
 use Rattle.mon_refute.specs.declared.read.LogFault.{LogFault}
 use Rattle.mon_refute.specs.declared.read.LogFault.TheVariants.{BadLog, OutOfMemory}
-use Rattle.mon_refute.specs.Text.{literals_text, hints_text, line_text, FitsLiteral, FitsHint, FitsLiterals, FitsHints, FitsLine, Spells}
-use Rattle.mon_refute.specs.Reading.{NoDigit, NoneAt, FoundAt, FitsNumber, literal_word, hint_word, OnBad, LineAt, NoLineAt, LinesAt, NoLinesAt, CountAt, NoCountAt, Reads}
-use Rattle.mon_refute.proofs.Numbers.{decimal_once}
+use Rattle.mon_refute.specs.Text.{literals_text, hints_text, line_text, log_text, FitsLiteral, FitsHint, FitsLiterals, FitsHints, FitsLine, Spells}
+use Rattle.mon_text.specs.Numbers.{NoDigit, NoneAt, FoundAt, FitsNumber}
+use Rattle.mon_refute.specs.Reading.{literal_word, hint_word, OnBad, LineAt, NoLineAt, LinesAt, NoLinesAt, CountAt, NoCountAt, Reads, LogAt, ReadsAt}
+use Rattle.mon_text.proofs.Spelling.{decimal_once}
 use Rattle.mon_refute.proofs.WordKinds.{literal_fits, literal_same, hint_fits, hint_same}
 use Rattle.mon_refute.proofs.Items.{list_once, next, all_push, flat_push}
 
@@ -103,31 +104,45 @@ count_once m n r s f g e =
     (a.0, tails 10 10 _ _ a.1)
 
 -- a log's text, as its parts are read
-log_count : (text : List ℕ) (log : List LogLine) → Spells text log → CountAt text (length log) (flat_map line_text log)
-log_count text log s = record { is = s.is; fits = s.fits.0 }
+log_is : (log : List LogLine) (rest : List ℕ) → log_text log ++ rest ≡ codes "log " ++ (decimal (length log) ++ (10 ∷ (flat_map line_text log ++ rest)))
+log_is log rest = ap (λ xs. codes "log " ++ xs) (append_assoc (decimal (length log)) (10 ∷ flat_map line_text log) rest)
 
-pub bad_count : (text : List ℕ) → NoCountAt text → (log : List LogLine) → Spells text log → ⊥
-bad_count text n log s = n (length log) (flat_map line_text log) (log_count text log s)
+log_count : (bytes : List ℕ) (log : List LogLine) (rest : List ℕ) → LogAt bytes log rest → CountAt bytes (length log) (flat_map line_text log ++ rest)
+log_count bytes log rest a = record { is = a.is ∙ log_is log rest; fits = a.fits.0 }
 
-log_lines : (text rest : List ℕ) (count : ℕ) (log : List LogLine) → CountAt text count rest → Spells text log → LinesAt rest count log []
-log_lines text rest count log c s =
-    let a = count_once count (length log) rest (flat_map line_text log) c.fits s.fits.0 (sym c.is ∙ s.is) in
-    record { is = a.1 ∙ sym (append-nil (flat_map line_text log)); count_is = sym a.0; fit = s.fits.1 }
+pub bad_count : (bytes : List ℕ) → NoCountAt bytes → (log : List LogLine) (rest : List ℕ) → LogAt bytes log rest → ⊥
+bad_count bytes n log rest a = n (length log) (flat_map line_text log ++ rest) (log_count bytes log rest a)
 
-pub bad_lines : (text rest : List ℕ) (count : ℕ) (f : LogFault) → CountAt text count rest → OnBad f (NoLinesAt rest count) → (log : List LogLine) → Spells text log → Reads (Err f) log
-bad_lines text rest count BadLog c n log s = n log [] (log_lines text rest count log c s)
-bad_lines text rest count OutOfMemory c n log s = tt
+log_lines : (bytes lines : List ℕ) (count : ℕ) (log : List LogLine) (rest : List ℕ) → CountAt bytes count lines → LogAt bytes log rest → LinesAt lines count log rest
+log_lines bytes lines count log rest c a =
+    let k = count_once count (length log) lines (flat_map line_text log ++ rest) c.fits a.fits.0 (sym c.is ∙ a.is ∙ log_is log rest) in
+    record { is = k.1; count_is = sym k.0; fit = a.fits.1 }
 
-pub log_read : (text rest after : List ℕ) (count : ℕ) (read log : List LogLine) → CountAt text count rest → LinesAt rest count read after → Spells text log → (read ≡ log) × (after ≡ [])
-log_read text rest after count read log c l s =
-    let k = log_lines text rest count log c s in
-    lines_once read log after [] (l.count_is ∙ sym k.count_is) l.fit k.fit (sym l.is ∙ k.is)
+pub bad_lines : (bytes lines : List ℕ) (count : ℕ) (f : LogFault) → CountAt bytes count lines → OnBad f (NoLinesAt lines count) → (log : List LogLine) (rest : List ℕ) → LogAt bytes log rest → ReadsAt (Err f) log rest
+bad_lines bytes lines count BadLog c n log rest a = n log rest (log_lines bytes lines count log rest c a)
+bad_lines bytes lines count OutOfMemory c n log rest a = tt
 
-pub log_spelled : (text rest after : List ℕ) (count : ℕ) (read : List LogLine) → CountAt text count rest → LinesAt rest count read after → after ≡ [] → Spells text read
-log_spelled text rest after count read c l e = record {
-  is = c.is ∙ ap (λ n. codes "log " ++ (decimal n ++ (10 ∷ rest))) (sym l.count_is) ∙ ap (λ xs. codes "log " ++ (decimal (length read) ++ (10 ∷ xs))) (l.is ∙ ap (λ xs. flat_map line_text read ++ xs) e ∙ append-nil (flat_map line_text read));
+pub log_once : (bytes lines after : List ℕ) (count : ℕ) (read log : List LogLine) (rest : List ℕ) → CountAt bytes count lines → LinesAt lines count read after → LogAt bytes log rest → (read ≡ log) × (after ≡ rest)
+log_once bytes lines after count read log rest c l a =
+    let k = log_lines bytes lines count log rest c a in
+    lines_once read log after rest (l.count_is ∙ sym k.count_is) l.fit k.fit (sym l.is ∙ k.is)
+
+pub log_found : (bytes lines after : List ℕ) (count : ℕ) (read : List LogLine) → CountAt bytes count lines → LinesAt lines count read after → LogAt bytes read after
+log_found bytes lines after count read c l = record {
+  is = c.is ∙ ap (λ n. codes "log " ++ (decimal n ++ (10 ∷ lines))) (sym l.count_is) ∙ ap (λ xs. codes "log " ++ (decimal (length read) ++ (10 ∷ xs))) l.is ∙ sym (log_is read after);
   fits = (subst (λ n. n < 2 ^ 64) (sym l.count_is) c.fits, l.fit);
 }
+
+-- the text of a log alone
+pub log_alone : (text : List ℕ) (log : List LogLine) → Spells text log → LogAt text log []
+log_alone text log s = record { is = s.is ∙ sym (append-nil (log_text log)); fits = s.fits }
+
+pub log_spelled : (text rest : List ℕ) (log : List LogLine) → LogAt text log rest → rest ≡ [] → Spells text log
+log_spelled text rest log a e = record { is = a.is ∙ ap (λ xs. log_text log ++ xs) e ∙ append-nil (log_text log); fits = a.fits }
+
+pub bad_log : (f : LogFault) (log : List LogLine) → ReadsAt (Err f) log [] → Reads (Err f) log
+bad_log BadLog log r = r
+bad_log OutOfMemory log r = tt
 
 number_of_log : (bytes number rest : List ℕ) (count : ℕ) → bytes ≡ codes "log " ++ number → CountAt bytes count rest → number ≡ decimal count ++ (10 ∷ rest)
 number_of_log bytes number rest count e c = tails 32 32 _ _ (tails 103 103 _ _ (tails 111 111 _ _ (tails 108 108 _ _ (sym e ∙ c.is))))

@@ -5,8 +5,9 @@ use Rattle.std.specs.Str.Parse.{AllDigits}
 use Rattle.std.proofs.lemmas.Fmt.{digits_decimal}
 use Rattle.std.proofs.lemmas.Str.Parse.{digit_from_value}
 use Rattle.mon_refute.specs.declared.number.Word.{Word}
-use Rattle.mon_refute.specs.Reading.{NoDigit, FitsNumber, IsPlain, NoneAt, FoundAt, word_text, FitsWord}
-use Rattle.mon_refute.proofs.Numbers.{own, decimal_once, decimal_plain}
+use Rattle.mon_text.specs.Numbers.{NoDigit, FitsNumber, IsPlain, NoneAt, FoundAt}
+use Rattle.mon_refute.specs.Reading.{word_text, FitsWord}
+use Rattle.mon_text.proofs.Spelling.{own, decimal_once, decimal_plain}
 
 -- a number begins with a digit
 digits_first : (ds r s : List ℕ) (b : ℕ) → AllDigits 10 ds → IsPlain ds → ds ++ r ≡ b ∷ s → IsInRange 48 57 b

@@ -1,39 +1,14 @@
 -- What a reader finds at the front of a text.
-use Rattle.std.specs.Prelude.{◌≡◌, ℕ, ◌+◌, ◌<◌, ◌^◌, true, cond, List, [], ◌∷◌, ◌++◌, length, Option, Some, None, Result, Ok, Err, codes, decimal}
-use Rattle.std.specs.Int.{IsInRange}
+use Rattle.std.specs.Prelude.{◌≡◌, ℕ, ◌+◌, ◌<◌, ◌^◌, true, cond, List, ◌∷◌, ◌++◌, length, Option, Some, None, Result, Ok, Err, codes, decimal}
+use Rattle.std.specs.Borrow.{Bor}
 use Rattle.std.specs.List.{flat_map, AllByRecursion}
+use Rattle.mon_text.specs.Numbers.{FitsNumber}
 use Rattle.mon_cnf.specs.declared.clause.Lit.{Lit}
 use Rattle.mon_refute.specs.declared.lines.LogLine.{LogLine}
 use Rattle.mon_refute.specs.declared.number.Word.{Word}
 use Rattle.mon_refute.specs.declared.read.LogFault.{LogFault}
 use Rattle.mon_refute.specs.declared.read.LogFault.TheVariants.{BadLog, OutOfMemory}
-use Rattle.mon_refute.specs.Text.{FitsLine, line_text}
-
--- no decimal digit comes next
-abbrev pub NoDigit : List ℕ → Type 0
-NoDigit [] = Unit {0}
-NoDigit (b ∷ bs) = IsInRange 48 57 b → ⊥
-
--- the bytes are this text and then the rest, with which no number of the text goes on
-pub record Front (bytes text rest : List ℕ) : Type 0 where
-  pub is : bytes ≡ text ++ rest
-  pub ends : NoDigit rest
-
--- the text of this item, which fits, stands at the front
-abbrev pub FoundAt : {X : Type 0} → (X → List ℕ) → (X → Type 0) → List ℕ → X → List ℕ → Type 0
-FoundAt text Fits bytes x rest = Fits x × Front bytes (text x) rest
-
--- the text of no item that fits stands at the front
-abbrev pub NoneAt : {X : Type 0} → (X → List ℕ) → (X → Type 0) → List ℕ → Type 0
-NoneAt {X} text Fits bytes = (x : X) (rest : List ℕ) → FoundAt text Fits bytes x rest → ⊥
-
-abbrev pub FitsNumber : ℕ → Type 0
-FitsNumber n = n < 2 ^ 64
-
--- digits, of which the first is 0 only where it is the only one
-abbrev pub IsPlain : List ℕ → Type 0
-IsPlain [] = ⊥
-IsPlain (d ∷ ds) = d ≡ 48 → ds ≡ []
+use Rattle.mon_refute.specs.Text.{FitsLine, FitsLog, line_text, log_text}
 
 abbrev pub word_text : Word → List ℕ
 word_text w = 32 ∷ cond w.positive (decimal w.number) (45 ∷ decimal w.number)
@@ -92,3 +67,14 @@ abbrev pub Reads : Result (List LogLine) LogFault → List LogLine → Type 0
 Reads (Ok read) log = read ≡ log
 Reads (Err BadLog) log = ⊥
 Reads (Err OutOfMemory) log = Unit {0}
+
+-- the text of this log stands at the front
+pub record LogAt (bytes : List ℕ) (log : List LogLine) (rest : List ℕ) : Type 0 where
+  pub is : bytes ≡ log_text log ++ rest
+  pub fits : FitsLog log
+
+-- the log that was read, and what stands behind it, if memory sufficed
+abbrev pub ReadsAt : Result (List LogLine × Bor (List ℕ)) LogFault → List LogLine → List ℕ → Type 0
+ReadsAt (Ok x) log rest = (x.0 ≡ log) × (x.1.now ≡ rest)
+ReadsAt (Err BadLog) log rest = ⊥
+ReadsAt (Err OutOfMemory) log rest = Unit {0}

@@ -7,7 +7,8 @@
 //! What that means is the contract of `accepted_means_none`: no assignment satisfies the formula.
 //!
 //! `accepts` reads a log in one pass, in time linear in the literals that its hints name, and takes no memory: what is
-//! known of each variable stands in a mark that the caller lends. `read_log` and `write_log` are a log's text.
+//! known of each variable stands in a mark that the caller lends. `read_log` and `write_log` are a log's text; `log_at` reads
+//! one that stands in front of others.
 #![tactic(auto)]
 
 mod check;
@@ -20,7 +21,7 @@ mod write;
 pub use check::{accepted_means_none, accepts};
 pub use lines::{Hints, Log, LogLine, Logs};
 pub use mon_list::OutOfMemory;
-pub use read::{LogFault, read_log};
+pub use read::{LogFault, log_at, read_log};
 pub use write::write_log;
 
 #[cfg(test)]

@@ -2,15 +2,17 @@
 
 ghost use Rattle.std.specs.Prelude.{◌≡◌, ◌≢◌, ◌++◌, ℕ, ◌<◌, List, codes, Option, MatchOption, MatchResult, IfOk};
 ghost use Rattle.mon_refute.specs.Text.{literals_text, hints_text, FitsLiteral, FitsLiterals, FitsHint, FitsHints, Spells};
-ghost use Rattle.mon_refute.specs.Reading.{FoundAt, NoneAt, literal_word, hint_word, word_item, FitsSome, OnBad, LineAt, NoLineAt, LinesAt, NoLinesAt, CountAt, NoCountAt, Reads};
+ghost use Rattle.mon_text.specs.Numbers.{FoundAt, NoneAt};
+ghost use Rattle.mon_refute.specs.Reading.{literal_word, hint_word, word_item, FitsSome, OnBad, LineAt, NoLineAt, LinesAt, NoLinesAt, CountAt, NoCountAt, Reads, LogAt, ReadsAt};
 ghost use Rattle.mon_refute.specs.declared.lines.LogLine.{LogLine};
 ghost use Rattle.mon_cnf.specs.declared.clause.Lit.{Lit};
 ghost use Rattle.mon_refute.specs.declared.read.LogFault.TheVariants.{OutOfMemory as MemoryFault};
 
 use crate::lines::{Hints, Log, LogLine};
-use crate::number::{Word, behind, number_at, word_at};
+use crate::number::{Word, behind, word_at};
 use mon_cnf::{Clause, Lit};
 use mon_list::OutOfMemory;
+use mon_text::number_at;
 use std::alloc::Global;
 use thiserror::Error;
 
@@ -177,6 +179,21 @@ fn count_at(bytes: &[u8]) -> Option<(u64, &[u8])>
     }
 }
 
+/// The log whose text stands at the front, as `read_log` describes it, and what stands behind it. It is refused where the
+/// text of no log stands there.
+pub fn log_at(alloc: Global, bytes: &[u8]) -> Result<(Log, &[u8]), LogFault>
+    // What is read is spelled so.
+    ensures found { IfOk result (λ x. LogAt bytes.now x.0 x.1.now) }
+    // The text of a log is read as that log, unless memory runs out, whatever stands behind it.
+    ensures only { (log : List LogLine) (rest : List ℕ) → LogAt bytes.now log rest → ReadsAt result log rest }
+{
+    let Some((count, rest)) = count_at(bytes) else {
+        return Err(LogFault::BadLog);
+    };
+    let (log, rest) = lines_at(alloc, count, rest)?;
+    Ok((log, rest))
+}
+
 /// The log that the text is of. A text that is of no log is refused.
 ///
 /// A log is spelled by a line `log L`, where L is how many lines it has, and then line by line by `l`, the literals, `0`,
@@ -189,10 +206,7 @@ pub fn read_log(alloc: Global, text: &str) -> Result<Log, LogFault>
     // The text of a log is read as that log, unless memory runs out. So a text is bad only where it is of no log.
     ensures only { (log : List LogLine) → Spells text.now log → Reads result log }
 {
-    let Some((count, rest)) = count_at(text.as_bytes()) else {
-        return Err(LogFault::BadLog);
-    };
-    let (log, rest) = lines_at(alloc, count, rest)?;
+    let (log, rest) = log_at(alloc, text.as_bytes())?;
     if !rest.is_empty() {
         return Err(LogFault::BadLog);
     }

@@ -117,3 +117,17 @@ fn reads_texts(rt: HostRuntime) {
         text
     );
 }
+
+#[test]
+fn reads_a_log_before_others(rt: HostRuntime) {
+    let texts = b"log 1\nl 0 3 0\nlog 0\n";
+    let (log, rest) = log_at(rt.alloc(), texts).expect(&rt, "a log");
+    assert_eq!(rt; log.items().len(), 1);
+    assert_eq!(rt; rest, b"log 0\n".as_slice());
+    assert!(rt;
+        matches!(
+            log_at(rt.alloc(), b"log 2\nl 0 3 0\nlog 0\n"),
+            Err(LogFault::BadLog)
+        )
+    );
+}

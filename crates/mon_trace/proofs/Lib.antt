@@ -1,6 +1,4 @@
-pub mod Ascii
 pub mod Decoding
-pub mod Digits
 pub mod FirstLine
 pub mod Named
 pub mod Places

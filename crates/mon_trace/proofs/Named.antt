@@ -9,7 +9,7 @@ use Rattle.mon_world.specs.declared.event.Event.TheVariants.{Opened, Piece}
 use Rattle.mon_world.specs.Logs.{NamesOpened, opened_by, AllNamed, IsStop, NoStop}
 use Rattle.mon_trace.specs.Grammar.{piece_of, record_of, switch_record, pieces_of, event_before, events_of, is_open, from_controller, from_switch}
 use Rattle.mon_trace.specs.Reading.{events_in}
-use Rattle.mon_trace.specs.Hex.{unhex}
+use Rattle.mon_text.specs.Hex.{unhex}
 
 -- the event is of session 0
 abbrev OfFirst : Event → Type 0

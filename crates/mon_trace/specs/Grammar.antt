@@ -8,7 +8,7 @@ use Rattle.mon_world.specs.declared.event.Event.{Event}
 use Rattle.mon_world.specs.declared.event.Event.TheVariants.{Opened, Piece}
 use Rattle.mon_trace.specs.declared.fault.TraceFault.{TraceFault}
 use Rattle.mon_trace.specs.declared.fault.TraceFault.TheVariants.{BadTrace, OutOfMemory}
-use Rattle.mon_trace.specs.Hex.{unhex}
+use Rattle.mon_text.specs.Hex.{unhex}
 
 -- a trace: its key, and the events of its records in order
 pub record Traced : Type 0 where

@@ -5,7 +5,7 @@ use Rattle.mon_world.specs.declared.event.Out.{Out}
 use Rattle.mon_world.specs.declared.event.Out.TheVariants.{Send, Close}
 use Rattle.mon_trace.specs.declared.outputs.Output.{Output}
 use Rattle.mon_trace.specs.declared.outputs.Output.TheVariants.{Frame, Closing}
-use Rattle.mon_trace.specs.Hex.{unhex}
+use Rattle.mon_text.specs.Hex.{unhex}
 use Rattle.mon_trace.specs.Run.{line_of}
 
 abbrev pub bytes_of : Option (List ℕ) → List ℕ

@@ -9,7 +9,7 @@ use Rattle.mon_world.specs.declared.event.Out.TheVariants.{Send, Close}
 use Rattle.mon_world.specs.declared.history.Entry.{Entry}
 use Rattle.mon_world.specs.declared.history.Entry.TheVariants.{Given, Put, End}
 use Rattle.mon_world.specs.Logs.{inputs}
-use Rattle.mon_trace.specs.Hex.{hex}
+use Rattle.mon_text.specs.Hex.{hex}
 
 -- the n-th input of a run, counted from 0: those of the trace, and then Stop
 abbrev pub event_at : List Event → ℕ → Event

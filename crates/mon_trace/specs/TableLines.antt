@@ -4,7 +4,7 @@ use Rattle.mon_header.specs.declared.action.Action.{Action}
 use Rattle.mon_table.specs.declared.rule.Rule.{Rule}
 use Rattle.of_match.specs.Layout as matches
 use Rattle.of_action.specs.Layout as actions
-use Rattle.mon_trace.specs.Hex.{hex}
+use Rattle.mon_text.specs.Hex.{hex}
 
 -- the digits of actions, and a dash where there are none
 abbrev pub actions_text : List Action → List ℕ

@@ -7,7 +7,7 @@ ghost use Rattle.std.specs.Prelude.{◌≡◌, ◌+◌, ◌<◌, ◌≤◌, ◌+
 ghost use Rattle.mon_world.specs.declared.event.Event.TheVariants.{Opened};
 ghost use Rattle.mon_trace.specs.Grammar.{Reads, piece_of};
 ghost use Rattle.mon_trace.specs.Reading.{onto, one};
-ghost use Rattle.mon_trace.specs.Hex.{unhex};
+ghost use Rattle.mon_text.specs.Hex.{unhex};
 ghost use Rattle.mon_trace.specs.Run.{event_at};
 
 use crate::fault::TraceFault;

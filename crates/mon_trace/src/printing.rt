@@ -1,11 +1,11 @@
 //! The lines of a run.
 
 ghost use Rattle.std.specs.Prelude.{◌≡◌, ◌++◌, ◌∷◌, [], Some, OnOk};
-ghost use Rattle.mon_trace.specs.Hex.{hex, unhex};
+ghost use Rattle.mon_text.specs.Hex.{hex, unhex};
 ghost use Rattle.mon_trace.specs.Run.{side_name, put_head, end_line};
 
-use crate::hexadecimal::push_digits;
 use itoa::Buffer;
+use mon_text::push_digits;
 use mon_world::Side;
 use std::alloc::AllocError;
 

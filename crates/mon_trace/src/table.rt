@@ -3,10 +3,10 @@
 ghost use Rattle.std.specs.Prelude.{◌≡◌, string_bytes, IfOk};
 ghost use Rattle.mon_trace.specs.TableLines.{actions_text, table_line};
 
-use crate::hexadecimal::digits;
 use mon_header::Actions;
 use mon_list::OutOfMemory;
 use mon_table::Rule;
+use mon_text::digits;
 use of_action::write_actions;
 use of_match::write_match;
 use std::alloc::Global;

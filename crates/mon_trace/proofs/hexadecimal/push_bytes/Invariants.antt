@@ -1,5 +1,5 @@
 use Rattle.std.proofs.Common.{◌≡◌, ◌+◌, ◌*◌, ◌≤◌, length}
-use Rattle.mon_trace.specs.Hex.{unhex}
+use Rattle.mon_text.specs.Hex.{unhex}
 use Rattle.mon_trace.specs.Reading.{onto}
 use Rattle.mon_trace.proofs.hexadecimal.push_bytes.Given as goal
 

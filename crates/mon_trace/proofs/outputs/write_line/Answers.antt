@@ -2,7 +2,7 @@ use Rattle.std.proofs.Common.{◌≡◌, ◌∙◌, ◌+◌, List, ℕ, Some, le
 use Rattle.mon_world.specs.declared.event.Out.{Out}
 use Rattle.mon_world.specs.declared.event.Out.TheVariants.{Send}
 use Rattle.mon_trace.specs.declared.outputs.Output.TheVariants.{Frame}
-use Rattle.mon_trace.specs.Hex.{hex, unhex}
+use Rattle.mon_text.specs.Hex.{hex, unhex}
 use Rattle.mon_trace.specs.Run.{put_head, put_line}
 use Rattle.mon_trace.specs.Outputs.{IsPlaceIn}
 use Rattle.mon_trace.proofs.Decoding.{frame_placed}

@@ -1,4 +1,4 @@
-use Rattle.mon_trace.proofs.Decoding.{unhex-hex, all_bytes}
+use Rattle.mon_text.proofs.Decoding.{unhex-hex, all_bytes}
 use Rattle.mon_trace.proofs.printing.push_frame.Goals as goal
 
 pub returns-clause-digits : goal.returns-clause-digits

@@ -4,7 +4,7 @@ use Rattle.mon_trace.specs.declared.events.Place.{Place}
 use Rattle.mon_trace.specs.declared.events.Place.TheVariants.{Bytes}
 use Rattle.mon_trace.specs.Grammar.{piece_of}
 use Rattle.mon_trace.specs.Reading.{onto, one}
-use Rattle.mon_trace.specs.Hex.{unhex}
+use Rattle.mon_text.specs.Hex.{unhex}
 use Rattle.mon_trace.specs.Places.{events_at, AllWithin}
 use Rattle.mon_trace.proofs.Places.{all_within-append, all_within-more, pushed_piece}
 use Rattle.mon_trace.proofs.events.Events.push_piece.Goals as goal
