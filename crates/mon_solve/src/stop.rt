@@ -1,0 +1,44 @@
+//! When a job may be given up.
+
+ghost use Rattle.std.specs.Prelude.{◌≡◌, ◌<◌, ℕ, suc, Option, None, option_map, MatchOption};
+
+/// Whether a job may be given up, since it was overtaken.
+pub trait Stop {
+    /// The version of the job, which never changes.
+    ghost floor: { Self → ℕ };
+
+    /// What the last `ask` gave, None at first.
+    ghost shown: { Self → Option ℕ };
+
+    /// How often it was asked, where it tells that.
+    ghost asked: { Self → Option ℕ };
+
+    /// A version above the floor, which was seen, or none.
+    fn ask(&mut self) -> Option<u64>
+        ensures same { floor self.new ≡ floor self.old }
+        ensures told { shown self.new ≡ result }
+        ensures counted { asked self.new ≡ option_map (λ n. suc n) (asked self.old) }
+        ensures above { MatchOption result (Unit {0}) (λ seen. floor self.old < seen) };
+}
+
+/// A stop that never gives a version.
+#[derive(Clone, Copy, Debug)]
+pub struct Never {
+    /// The version of the job.
+    pub floor: u64,
+}
+
+impl Stop for Never {
+    ghost floor = { λ n. n.floor };
+
+    ghost shown = { λ _. None };
+
+    ghost asked = { λ _. None };
+
+    fn ask(&mut self) -> Option<u64>
+        ensures never { result ≡ None }
+        ensures unchanged { self.new ≡ self.old }
+    {
+        None
+    }
+}
