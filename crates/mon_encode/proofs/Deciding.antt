@@ -1,5 +1,5 @@
 -- The formula of a case is exact, in both directions.
-use Rattle.std.proofs.Common.{◌≡◌, ℕ, zero, suc, Bool, true, false, not, ◌&&◌, List, [], ◌∷◌, Option, Some, None, refl, sym, ap, subst, ◌∙◌, ◌⊎◌, ⊎_elim}
+use Rattle.std.proofs.Common.{◌≡◌, ℕ, zero, suc, Bool, true, false, not, ◌&&◌, List, [], ◌∷◌, Option, Some, None, refl, sym, ap, subst, ◌∙◌, ◌⊎◌, ⊎_elim, ◌<◌, ◌^◌}
 use Rattle.std.specs.Prelude.{nat_lt}
 use Rattle.std.specs.List.{slice_get}
 use Rattle.std.specs.Option.{option_to_list}
@@ -37,9 +37,9 @@ use Rattle.mon_encode.specs.Cases.{IsCaseOf, winner_at, shape_at, shape_of, give
 use Rattle.mon_encode.specs.Clauses.{winning}
 use Rattle.mon_encode.specs.Formulas.{is_known, comes_back, clauses_in, clauses_of, tagged}
 use Rattle.mon_encode.specs.Keeping.{AllActionsFit, Kept}
-use Rattle.mon_encode.proofs.Fitting.{AllFitFields, shapes-fit}
-use Rattle.mon_encode.proofs.Chain.{Falls, Helped}
-use Rattle.mon_encode.proofs.Emitting.{Meets, FitsShape, must-there, must-back, given-caught, given-whole}
+use Rattle.mon_literals.proofs.Shapes.{shapes_fit}
+use Rattle.mon_encode.proofs.Chaining.{Falls, Helped}
+use Rattle.mon_encode.proofs.Emitting.{Meets, AllFitFields, FitsShape, must-there, must-back, given-caught, given-whole}
 use Rattle.mon_encode.proofs.Exact.{Literals, all-read, winning-there, winning-back, missing-there, missing-back, Undone, hiding_clauses, impossible-there, impossible-back}
 use Rattle.mon_encode.proofs.Casing.{Founded, case-fact}
 use Rattle.mon_encode.proofs.Covering.{crafted, has-tag, separated}
@@ -112,7 +112,7 @@ rule-won v h t class in_port place r emission shape l table fits g s =
     record {
       there = λ f. winning-there v h t place r read g f ∙ sym list;
       back = λ e. winning-back v h t place r read g (e ∙ list);
-      fit = subst FitsShape (sym is) (shape-fits (shapes_of r.actions class in_port) emission shape (shapes-fit class in_port r.actions (rule-fits t place r fits g)) s);
+      fit = subst FitsShape (sym is) (shape-fits (shapes_of r.actions class in_port) emission shape (shapes_fit r.actions class in_port (rule-fits t place r fits g)) s);
       sure = λ m e k w.
           let known : any_unknown r.actions ≡ false = not-true _ (subst (λ (o : Option Rule). is_known o ≡ true) g k) in
           let whole : (emitted_by h shape).1 ≡ true = sym (ap (λ (o : Option Shape). (given o h).1) is) ∙ w in
@@ -148,16 +148,16 @@ unfolding separates
 joined j h e a b c d = and_from _ _ a (and_from _ _ b (and_from _ _ c d))
 
 -- what a model bears separates, and belongs to the case
-whole-there : (v : ℕ → Bool) (h : Header) (j : Task) (c : Case) → Literals v h → Kept j → IsCaseOf j c → is_known (winner_at j.table c.winner) ≡ true → comes_back j.view (shape_of j.table c) ≡ true
+whole-there : (v : ℕ → Bool) (h : Header) (j : Task) (c : Case) → c.in_port < 2 ^ 16 → Literals v h → Kept j → IsCaseOf j c → is_known (winner_at j.table c.winner) ≡ true → comes_back j.view (shape_of j.table c) ≡ true
     → formula_true v (whole_clauses j c) ≡ true → (separates j.view j.table j.target h (given (shape_of j.table c) h).0 ≡ true) × BelongsTo j c h (given (shape_of j.table c) h).0
-whole-there v h j c l k i known back f =
+whole-there v h j c small l k i known back f =
     let u = without_update j.table j.target in
     let shape = shape_of j.table c in
     let e = (given shape h).0 in
     let fact = case-fact j c k.table.order k.job.there i in
     let p = and_parts (formula_true v (class_clauses j.view c.class c.in_port)) _ (sym (list_all-append (clause_true v) (class_clauses j.view c.class c.in_port) _) ∙ f) in
     let q = and_parts (formula_true v (winning c.winner j.table)) _ (sym (list_all-append (clause_true v) (winning c.winner j.table) (hiding_clauses c.class c.in_port shape u)) ∙ p.1) in
-    let a = and_parts (craftable j.view h) _ (sym (l.class j.view c.class c.in_port k.view fact.link) ∙ p.0) in
+    let a = and_parts (craftable j.view h) _ (sym (l.class j.view c.class c.in_port k.view small fact.link) ∙ p.0) in
     let b = and_parts (is_in_class c.class h) _ a.1 in
     let tag = (crafted j.view h a.0).tag in
     let port : h.in_port ≡ c.in_port = eqb-true h.in_port c.in_port b.1 in
@@ -171,24 +171,24 @@ whole-there v h j c l k i known back f =
       record { class = b.0; in_port = port; winner = n; emission = λ x. (e, whole x) },
     )
 
-pub models-show : (v : ℕ → Bool) (h : Header) (j : Task) (c : Case) → Literals v h → Kept j → IsCaseOf j c → formula_true v (clauses_of j c) ≡ true
+pub models-show : (v : ℕ → Bool) (h : Header) (j : Task) (c : Case) → c.in_port < 2 ^ 16 → Literals v h → Kept j → IsCaseOf j c → formula_true v (clauses_of j c) ≡ true
     → (separates j.view j.table j.target h (given (shape_of j.table c) h).0 ≡ true) × BelongsTo j c h (given (shape_of j.table c) h).0
 unfolding clauses_of
-models-show v h j c l k i f =
+models-show v h j c small l k i f =
     let known = is_known (winner_at j.table c.winner) in
     let back = comes_back j.view (shape_of j.table c) in
     ⊎_elim
     (λ (y : (known && back) ≡ true).
     let p = and_parts known back y in
-    whole-there v h j c l k i p.0 p.1 (rw y at f))
+    whole-there v h j c small l k i p.0 p.1 (rw y at f))
     (λ (y : (known && back) ≡ false). absurd (let z : false ≡ true = rw y at f in false≢true z))
     (cases_Bool (known && back))
 
 -- and each header that separates and belongs to the case satisfies its clauses, with helpers as they should be
-pub showing-satisfies : (v : ℕ → Bool) (h : Header) (e : Emission) (j : Task) (c : Case) → Literals v h → Kept j → IsCaseOf j c → Helped v 264 false (without_update j.table j.target)
+pub showing-satisfies : (v : ℕ → Bool) (h : Header) (e : Emission) (j : Task) (c : Case) → c.in_port < 2 ^ 16 → Literals v h → Kept j → IsCaseOf j c → Helped v 264 false (without_update j.table j.target)
     → separates j.view j.table j.target h e ≡ true → BelongsTo j c h e → formula_true v (clauses_of j c) ≡ true
 unfolding clauses_of
-showing-satisfies v h e j c l k i helped y o =
+showing-satisfies v h e j c small l k i helped y o =
     let u = without_update j.table j.target in
     let shape = shape_of j.table c in
     let s = separated j.view j.table j.target h e y in
@@ -202,7 +202,7 @@ showing-satisfies v h e j c l k i helped y o =
     let known : is_known (winner_at j.table c.winner) ≡ true = w.known e meets o.winner s.sure in
     let test : (is_known (winner_at j.table c.winner) && comes_back j.view shape) ≡ true = and_from _ _ known (and_from _ _ whole back) in
     let class : formula_true v (class_clauses j.view c.class c.in_port) ≡ true =
-    l.class j.view c.class c.in_port k.view fact.link ∙ and_from _ _ s.crafted (and_from _ _ o.class (eq-eqb h.in_port c.in_port o.in_port)) in
+    l.class j.view c.class c.in_port k.view small fact.link ∙ and_from _ _ s.crafted (and_from _ _ o.class (eq-eqb h.in_port c.in_port o.in_port)) in
     let impossible : not (is_possible (winners u h) h (given shape h).0) ≡ true = not_from_false _ (ap (is_possible (winners u h) h) is ∙ s.impossible) in
     rw test (
     list_all-append (clause_true v) (class_clauses j.view c.class c.in_port) _

@@ -1,7 +1,7 @@
 -- What rules emit of the headers of a case, and which clauses say that they do not.
 use Rattle.std.proofs.Common.{◌≡◌, ◌≢◌, ℕ, zero, suc, Bool, true, false, not, cond, ◌&&◌, ◌||◌, List, [], ◌∷◌, map, Option, Some, None, refl, sym, ap, subst, ◌∙◌, ⊎_elim}
 use Rattle.std.specs.Prelude.{◌==◌}
-use Rattle.std.specs.List.{slice_get, list_any}
+use Rattle.std.specs.List.{slice_get, list_any, AllByRecursion}
 use Rattle.std.proofs.lemmas.Bool.{and_parts, and_from, or_left, or_right, or_cases, not-true, not_from_false, false≢true}
 use Rattle.mon_cnf.specs.declared.clause.Lit.{Lit}
 use Rattle.mon_cnf.specs.Truth.{clause_true, formula_true}
@@ -29,7 +29,7 @@ use Rattle.mon_encode.specs.Cases.{given}
 use Rattle.mon_encode.specs.Clauses.{same_door, apart, or_all_apart, or_hidden}
 use Rattle.mon_encode.specs.Formulas.{tagged}
 use Rattle.mon_encode.proofs.Truth.{Denies, or_apart_true, or_no, or_yes, and_yes}
-use Rattle.mon_encode.proofs.Fitting.{AllFitFields, shapes-fit}
+use Rattle.mon_literals.proofs.Shapes.{shapes_fit}
 
 -- the header is of a case's class and port, and bears a tag
 pub record Meets (class : Class) (in_port : ℕ) (h : Header) : Type 0 where
@@ -59,6 +59,10 @@ Differs v h = (a b : Rewrite) → FitsFields a → FitsFields b → Denies v (sa
 abbrev pub FitsShape : Option Shape → Type 0
 FitsShape None = Unit {0}
 FitsShape (Some shape) = FitsFields shape.bits
+
+-- the values that shapes fix fit
+abbrev pub AllFitFields : List Shape → Type 0
+AllFitFields shapes = AllByRecursion (λ s. FitsFields s.bits) shapes
 
 denies-port : (v : ℕ → Bool) (p q : ℕ) (b : Bool) (d : Option (List Lit)) → Denies v b d → Denies v ((p == q) && b) (cond (p == q) d None)
 denies-port v p q b d e = elim (p == q) as (λ x. Denies v (x && b) (cond x d None)) [ true ↦ e | false ↦ refl ]
@@ -94,7 +98,7 @@ unknown-step v base m false cs f = f
 pub or-hidden-true : (v : ℕ → Bool) (h : Header) (base : List Lit) (class : Class) (in_port : ℕ) (shape : Option Shape) (r : Rule) → Differs v h → FitsShape shape → AllFit r.actions
     → Meets class in_port h → formula_true v (or_hidden base class in_port shape r) ≡ (clause_true v base || not (may r.actions h (given shape h).0))
 or-hidden-true v h base class in_port shape r differs f g m =
-    unknown-step v base _ (any_unknown r.actions) _ (all-apart-true v h base shape (shapes_of r.actions class in_port) differs f (shapes-fit class in_port r.actions g))
+    unknown-step v base _ (any_unknown r.actions) _ (all-apart-true v h base shape (shapes_of r.actions class in_port) differs f (shapes_fit r.actions class in_port g))
     ∙ ap (λ (b : Bool). clause_true v base || not b) (sym (may-is r.actions class in_port h (given shape h).0 m))
 
 -- what a winner must show: the emission of a shape that shows the whole packet, where no action is unknown

@@ -1,5 +1,5 @@
 -- The clauses of a case are exact, in both directions.
-use Rattle.std.proofs.Common.{◌≡◌, ℕ, zero, suc, Bool, true, false, not, ◌&&◌, ◌||◌, List, [], ◌∷◌, ◌++◌, Option, Some, None, refl, sym, ap, subst, ◌∙◌}
+use Rattle.std.proofs.Common.{◌≡◌, ℕ, zero, suc, Bool, true, false, not, ◌&&◌, ◌||◌, List, [], ◌∷◌, ◌++◌, Option, Some, None, refl, sym, ap, subst, ◌∙◌, ◌<◌, ◌^◌}
 use Rattle.std.specs.Prelude.{◌==◌}
 use Rattle.std.specs.List.{slice_get, list_any, list_all}
 use Rattle.std.proofs.lemmas.List.Folds.{list_all-append, list_any-append}
@@ -24,14 +24,15 @@ use Rattle.mon_outcome.proofs.Equality.{emission-same}
 use Rattle.mon_shows.specs.Views.{Viewing, IsView, has_link, craftable}
 use Rattle.mon_shows.specs.Separation.{is_miss, is_possible}
 use Rattle.mon_literals.specs.Patterns.{pattern_of}
+use Rattle.mon_literals.proofs.Truths.{alone_true}
 use Rattle.mon_literals.specs.Conditions.{class_clauses}
 use Rattle.mon_literals.specs.Clauses.{alone}
 use Rattle.mon_encode.specs.Cases.{given}
 use Rattle.mon_encode.specs.Clauses.{unmatched, beaten, winning, chain, above, matched, or_hidden, hidden, not_missed}
 use Rattle.mon_encode.specs.Keeping.{AllActionsFit}
-use Rattle.mon_encode.proofs.Truth.{fits, Read, alone_true, unmatched_true, none_true, all_lose, beaten_true}
-use Rattle.mon_encode.proofs.Chain.{Falls, Helped, is_above, above_there, matched_there, chain_back, above_back, matched_back}
-use Rattle.mon_encode.proofs.Winning.{winner-there, winner-back, miss-there, miss-back}
+use Rattle.mon_encode.proofs.Truth.{fits, Read, unmatched_true, none_true, all_lose, beaten_true}
+use Rattle.mon_encode.proofs.Chaining.{Falls, Helped, is_above, above_there, matched_there, chain_back, above_back, matched_back}
+use Rattle.mon_encode.proofs.Winners.{winner-there, winner-back, miss-there, miss-back}
 use Rattle.mon_encode.proofs.Possible.{all_hidden, hidden-is, wins-is}
 use Rattle.mon_encode.proofs.Emitting.{Meets, Differs, FitsShape, never-miss, or-hidden-true}
 
@@ -39,7 +40,7 @@ use Rattle.mon_encode.proofs.Emitting.{Meets, Differs, FitsShape, never-miss, or
 pub record Literals (v : ℕ → Bool) (h : Header) : Type 0 where
   pub reads : (m : Matching) → IsNormal m → list_all (lit_true v) (pattern_of m) ≡ matches m h
   pub differs : Differs v h
-  pub class : (view : Viewing) (c : Class) (in_port : ℕ) → IsView view → has_link in_port view.links ≡ true
+  pub class : (view : Viewing) (c : Class) (in_port : ℕ) → IsView view → in_port < 2 ^ 16 → has_link in_port view.links ≡ true
       → formula_true v (class_clauses view c in_port) ≡ (craftable view h && (is_in_class c h && (h.in_port == in_port)))
 
 pub all-read : (v : ℕ → Bool) (h : Header) (t : List Rule) → Literals v h → AllNormal t → Read v h t

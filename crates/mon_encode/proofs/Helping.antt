@@ -2,7 +2,6 @@
 use Rattle.std.proofs.Common.{◌≡◌, ℕ, ◌+◌, ◌*◌, Bool, true, false, ◌||◌, List, [], ◌∷◌, ◌++◌, length, refl, sym, ap, subst, ◌∙◌, arith, append_assoc, length-append}
 use Rattle.std.proofs.Math.Seq.{get_or-append_seam}
 use Rattle.std.proofs.lemmas.Bool.{and_parts}
-use Rattle.std.proofs.lemmas.List.{get_or_append_left}
 use Rattle.mon_cnf.specs.Truth.{values_of}
 use Rattle.mon_header.specs.declared.class.Class.{Class}
 use Rattle.mon_header.specs.declared.header.Header.{Header}
@@ -14,9 +13,10 @@ use Rattle.mon_table.specs.declared.rule.Rule.{Rule}
 use Rattle.mon_shows.specs.Separation.{without_update}
 use Rattle.mon_job.specs.Jobs.{Task}
 use Rattle.mon_literals.specs.Bearing.{Bears}
+use Rattle.mon_literals.proofs.Values.{bits_bear}
 use Rattle.mon_encode.specs.Formulas.{helpers, vars_of, encoded}
 use Rattle.mon_encode.proofs.Truth.{fits as is_fit, Read}
-use Rattle.mon_encode.proofs.Chain.{Helped}
+use Rattle.mon_encode.proofs.Chaining.{Helped}
 
 -- helpers in a row, behind other values, are as they should be
 pub helped-row : (v : ℕ → Bool) (h : Header) (front : List Bool) (seen : Bool) (t : List Rule) → Read v h t
@@ -50,10 +50,7 @@ encoded-long j h =
 
 pub encoded-bears : (j : Task) (c : Class) (h : Header) → is_in_class c h ≡ true → Bears (values_of (encoded j h)) h
 unfolding encoded is_in_class
-encoded-bears j c h y = record {
-  fit = (and_parts (fits h) _ y).0;
-  each = λ place lt. get_or_append_left (header_bits h) (helpers h false (without_update j.table j.target)) false place (let n = header-long h in omega arith);
-}
+encoded-bears j c h y = bits_bear h (helpers h false (without_update j.table j.target)) (and_parts (fits h) _ y).0
 
 pub encoded-helped : (j : Task) (h : Header) → Read (values_of (encoded j h)) h (without_update j.table j.target) → Helped (values_of (encoded j h)) 264 false (without_update j.table j.target)
 unfolding encoded

@@ -1,8 +1,7 @@
 pub mod Truth
-pub mod Chain
-pub mod Winning
+pub mod Chaining
+pub mod Winners
 pub mod Possible
-pub mod Fitting
 pub mod Emitting
 pub mod Exact
 pub mod Updating
@@ -10,3 +9,7 @@ pub mod Casing
 pub mod Covering
 pub mod Deciding
 pub mod Helping
+pub mod Standing
+pub mod Bearing
+pub mod Pushing
+pub mod Above

@@ -13,8 +13,8 @@ use Rattle.mon_outcome.specs.declared.emission.Emission.{Emission}
 use Rattle.mon_outcome.specs.Emitting.{may}
 use Rattle.mon_shows.specs.Separation.{is_miss, is_possible}
 use Rattle.mon_encode.proofs.Truth.{fits, Read, or_yes}
-use Rattle.mon_encode.proofs.Chain.{is_above}
-use Rattle.mon_encode.proofs.Winning.{miss-there, miss-back}
+use Rattle.mon_encode.proofs.Chaining.{is_above}
+use Rattle.mon_encode.proofs.Winners.{miss-there, miss-back}
 
 -- there is a rule
 abbrev has_any : List Rule → Bool

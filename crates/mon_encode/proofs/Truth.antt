@@ -9,8 +9,8 @@ use Rattle.mon_header.specs.declared.header.Header.{Header}
 use Rattle.mon_header.specs.Matching.{matches}
 use Rattle.mon_table.specs.declared.rule.Rule.{Rule}
 use Rattle.mon_table.specs.Rules.{rank}
-use Rattle.mon_literals.specs.Clauses.{denied, alone}
 use Rattle.mon_literals.specs.Patterns.{pattern_of}
+use Rattle.mon_literals.proofs.Truths.{denied_true}
 use Rattle.mon_encode.specs.Clauses.{unmatched, beaten, or_apart}
 
 -- the literals of a rule's match are true
@@ -22,15 +22,6 @@ abbrev pub Read : (ℕ → Bool) → Header → List Rule → Type 0
 Read v h t = AllByRecursion (λ r. fits v r ≡ matches r.matching h) t
 
 -- laws of Bool
-turned : (p b : Bool) → cond (not p) b (not b) ≡ not (cond p b (not b))
-turned true b = refl
-turned false true = refl
-turned false false = refl
-
-pub not_and : (a b : Bool) → (not a || not b) ≡ not (a && b)
-not_and true b = refl
-not_and false b = refl
-
 pub or_no : (a : Bool) → (a || false) ≡ a
 or_no true = refl
 or_no false = refl
@@ -46,21 +37,6 @@ and_yes false = refl
 pub and_no : (a : Bool) → (a && false) ≡ false
 and_no true = refl
 and_no false = refl
-
--- literals denied, and alone
-opposite_true : (v : ℕ → Bool) (l : Lit) → lit_true v (record { var = l.var; positive = not l.positive }) ≡ not (lit_true v l)
-opposite_true v l = turned l.positive (v l.var)
-
-pub denied_true : (v : ℕ → Bool) (ls : List Lit) → clause_true v (denied ls) ≡ not (list_all (lit_true v) ls)
-denied_true v [] = refl
-denied_true v (l ∷ ls) =
-    ap (λ (a : Bool). a || clause_true v (denied ls)) (opposite_true v l)
-    ∙ (ap (λ (b : Bool). not (lit_true v l) || b) (denied_true v ls) ∙ not_and (lit_true v l) (list_all (lit_true v) ls))
-
-pub alone_true : (v : ℕ → Bool) (ls : List Lit) → formula_true v (alone ls) ≡ list_all (lit_true v) ls
-alone_true v [] = refl
-alone_true v (l ∷ ls) =
-    ap (λ (a : Bool). a && formula_true v (alone ls)) (or_no (lit_true v l)) ∙ ap (λ (b : Bool). lit_true v l && b) (alone_true v ls)
 
 pub unmatched_true : (v : ℕ → Bool) (r : Rule) → clause_true v (unmatched r) ≡ not (fits v r)
 unmatched_true v r = denied_true v (pattern_of r.matching)

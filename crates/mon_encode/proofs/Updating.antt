@@ -24,7 +24,7 @@ use Rattle.mon_shows.specs.declared.target.Target.{Target}
 use Rattle.mon_shows.specs.Separation.{is_sure, is_possible, taken_back}
 use Rattle.mon_job.specs.Jobs.{updated, ReplacesItsOwn}
 use Rattle.mon_job.proofs.Separating.{back-identity, must-may, sure-possible, edited-elsewhere}
-use Rattle.mon_encode.proofs.Winning.{miss-back}
+use Rattle.mon_encode.proofs.Winners.{miss-back}
 
 -- a rule of a table stands at its place
 pub stands-there : (t : List Rule) (r : Rule) → InOrder t → Has t r → slice_get t (place_of (identity_of r) t) ≡ Some r

@@ -22,6 +22,11 @@ true_at k = record { var = k; positive = true }
 abbrev pub false_at : ℕ → Lit
 false_at k = record { var = k; positive = false }
 
+-- the literal, where there is one
+abbrev pub listed : Option Lit → List Lit
+listed None = []
+listed (Some l) = l ∷ []
+
 -- the rule does not match
 abbrev pub unmatched : Rule → List Lit
 unmatched r = denied (pattern_of r.matching)

@@ -1,5 +1,5 @@
 -- What the types of a job see to.
-use Rattle.std.specs.Prelude.{List}
+use Rattle.std.specs.Prelude.{ℕ, ◌<◌, List, length, Option, Some, None}
 use Rattle.std.specs.List.{AllByRecursion}
 use Rattle.mon_header.specs.Actions.{AllFit}
 use Rattle.mon_header.specs.Matching.{IsNormal}
@@ -22,3 +22,8 @@ pub record Kept (j : Task) : Type 0 where
   pub fit : AllActionsFit j.table
   pub back_normal : IsNormal (edited (taken_back j.target)).matching
   pub back_fit : AllFit (edited (taken_back j.target)).actions
+
+-- a winner's place is in the table
+abbrev pub HasWinner : List Rule → Option ℕ → Type 0
+HasWinner t None = Unit {0}
+HasWinner t (Some place) = place < length t

@@ -1,0 +1,74 @@
+-- What the values of an assignment say of the header that it bears, and of the formula of a case.
+use Rattle.std.proofs.Common.{◌≡◌, ℕ, ◌<◌, ◌^◌, Bool, true, List, Option, Some, None, refl, zero, suc, [], ◌∷◌, length, sym, subst, arith, ⊎_elim}
+use Rattle.std.specs.List.{slice_get}
+use Rattle.mon_cnf.specs.declared.clause.Lit.{Lit}
+use Rattle.mon_cnf.specs.Truth.{values_of, formula_true}
+use Rattle.mon_header.specs.declared.header.Header.{Header}
+use Rattle.mon_table.specs.declared.rule.Rule.{Rule}
+use Rattle.mon_table.specs.Tables.{IsTable}
+use Rattle.mon_table.proofs.Members.{after-table}
+use Rattle.mon_outcome.specs.declared.emission.Emission.{Emission}
+use Rattle.mon_outcome.specs.declared.rewrite.Rewrite.{Rewrite}
+use Rattle.mon_outcome.specs.Emitting.{same_header}
+use Rattle.mon_outcome.specs.Filling.{filled}
+use Rattle.mon_shows.specs.Separation.{taken_back, without_update, separates}
+use Rattle.mon_job.specs.Jobs.{Task}
+use Rattle.mon_literals.specs.Bearing.{Bears, borne}
+use Rattle.mon_literals.specs.Differing.{FitsFields, differ}
+use Rattle.mon_literals.proofs.Apart.{differing_true, never_same}
+use Rattle.mon_literals.proofs.Patterns.{pattern_true}
+use Rattle.mon_literals.proofs.Probes.{class_true}
+use Rattle.mon_literals.proofs.Values.{borne_is_borne}
+use Rattle.mon_encode.specs.declared.case.Case.{Case}
+use Rattle.mon_encode.specs.Cases.{IsCaseOf, BelongsTo}
+use Rattle.mon_encode.specs.Formulas.{clauses_of, decoded, encoded}
+use Rattle.mon_encode.specs.Keeping.{Kept, HasWinner}
+use Rattle.mon_encode.proofs.Truth.{Denies}
+use Rattle.mon_encode.proofs.Exact.{Literals}
+use Rattle.mon_encode.proofs.Casing.{Founded, case-fact}
+use Rattle.mon_encode.proofs.Deciding.{undone-is, models-show, showing-satisfies}
+use Rattle.mon_encode.proofs.Helping.{encoded-bears, encoded-helped}
+
+differs-by : (v : ℕ → Bool) (h : Header) (a b : Rewrite) (d : Option (List Lit)) → Bears v h → FitsFields a → FitsFields b → differ a b ≡ d
+    → Denies v (same_header (filled a h) (filled b h)) d
+differs-by v h a b None bears f g e = never_same v h a b bears f g e
+differs-by v h a b (Some d) bears f g e = differing_true v h a b d bears f g e
+
+pub literals : (v : ℕ → Bool) (h : Header) → Bears v h → Literals v h
+literals v h bears = record {
+  reads = λ m n. pattern_true v h m bears n;
+  differs = λ a b f g. differs-by v h a b (differ a b) bears f g refl;
+  class = λ view c in_port i small link. class_true v h view c in_port bears i small link;
+}
+
+-- a model decodes to what separates
+pub decoded-shows : (j : Task) (c : Case) (v : ℕ → Bool) → c.in_port < 2 ^ 16 → Kept j → IsCaseOf j c → formula_true v (clauses_of j c) ≡ true
+    → (separates j.view j.table j.target (decoded j c v).0 (decoded j c v).1 ≡ true) × BelongsTo j c (decoded j c v).0 (decoded j c v).1
+unfolding decoded
+decoded-shows j c v small k i f = models-show v (borne v) j c small (literals v (borne v) (borne_is_borne v)) k i f
+
+-- what separates is encoded by a model
+pub encoded-bears-header : (j : Task) (c : Case) (h : Header) (e : Emission) → BelongsTo j c h e → Bears (values_of (encoded j h)) h
+encoded-bears-header j c h e o = encoded-bears j c.class h o.class
+
+pub encoded-satisfies : (j : Task) (c : Case) (h : Header) (e : Emission) → c.in_port < 2 ^ 16 → Kept j → IsCaseOf j c → separates j.view j.table j.target h e ≡ true → BelongsTo j c h e
+    → formula_true (values_of (encoded j h)) (clauses_of j c) ≡ true
+encoded-satisfies j c h e small k i y o =
+    let v = values_of (encoded j h) in
+    let l = literals v h (encoded-bears-header j c h e o) in
+    showing-satisfies v h e j c small l k i (encoded-helped j h (undone-is v h j k l).read) y o
+
+got-within : (t : List Rule) (n : ℕ) (r : Rule) → slice_get t n ≡ Some r → n < length t
+got-within [] n r g = absurd (let z : ⊥ = cc in z)
+got-within (x ∷ t) zero r g = omega arith
+got-within (x ∷ t) (suc n) r g = let rest = got-within t n r g in omega arith
+
+-- a case's winner stands in the table
+pub winner-within : (j : Task) (c : Case) → Kept j → IsCaseOf j c → HasWinner j.table c.winner
+winner-within j c k i = ⊎_elim
+    (λ (n : c.winner ≡ None). subst (HasWinner j.table) (sym n) tt)
+    (λ (f : Founded j.table c). subst (HasWinner j.table) (sym f.winner) (got-within j.table f.place f.rule f.rule_there))
+    (case-fact j c k.table.order k.job.there i).founded
+
+pub undone-table : (j : Task) → Kept j → IsTable (without_update j.table j.target)
+undone-table j k = after-table j.table (taken_back j.target) k.table k.back_normal

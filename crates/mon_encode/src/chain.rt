@@ -1,0 +1,75 @@
+//! The helper variables: two for each rule of the table without the update.
+
+ghost use Rattle.std.specs.Prelude.{◌≡◌, ◌<◌, ◌≤◌, ◌+◌, ◌*◌, ◌∷◌, [], map, length, Option, Some, None, OnOk};
+ghost use Rattle.mon_cnf.specs.declared.clause.Lit.{Lit};
+ghost use Rattle.mon_cnf.specs.Truth.{Within};
+ghost use Rattle.mon_literals.specs.Clauses.{appended};
+ghost use Rattle.mon_encode.specs.Clauses.{true_at, false_at, chain, listed};
+
+use crate::clauses::{false_at, true_at};
+use crate::undone::Undone;
+use mon_cnf::{Clause, Formula, Lit, OutOfMemory};
+use mon_literals::pattern;
+use std::alloc::Global;
+
+/// One clause for each literal: where the variable is true, the literal is.
+fn push_implied(
+    alloc: Global,
+    f: &mut Formula,
+    var: u32,
+    literals: &[Lit],
+) -> Result<(), OutOfMemory>
+    requires var { var < f.old.vars }
+    requires within { Within f.old.vars literals.now }
+    ensures pushed { OnOk result (f.new ≡ appended f.old (map (λ l. false_at var ∷ l ∷ []) literals.now)) }
+    ensures vars { f.new.vars ≡ f.old.vars }
+{
+    for literal in literals {
+        let mut clause = Clause::new(alloc);
+        clause.push(false_at(var))?;
+        clause.push(*literal)?;
+        f.push(clause)?;
+    }
+    Ok(())
+}
+
+/// Where the second helper is true, the first is, or the second of the rule before.
+fn push_link(
+    alloc: Global,
+    f: &mut Formula,
+    var: u32,
+    earlier: Option<Lit>,
+) -> Result<(), OutOfMemory>
+    requires var { var + 1 < f.old.vars }
+    requires within { Within f.old.vars (listed earlier) }
+    ensures pushed { OnOk result (f.new ≡ appended f.old ((false_at (var + 1) ∷ true_at var ∷ listed earlier) ∷ [])) }
+    ensures vars { f.new.vars ≡ f.old.vars }
+{
+    let _ = f.vars();
+    let mut clause = Clause::new(alloc);
+    clause.push(false_at(var + 1))?;
+    clause.push(true_at(var))?;
+    if let Some(literal) = earlier {
+        clause.push(literal)?;
+    }
+    f.push(clause)
+}
+
+/// Appends the clauses of the helpers of all rules. They stand behind the variables of a header.
+pub(crate) fn push_chain(alloc: Global, f: &mut Formula, u: &Undone) -> Result<(), OutOfMemory>
+    requires { f.old.vars ≡ 264 + 2 * length u.now }
+    ensures pushed { OnOk result (f.new ≡ appended f.old (chain 264 [] u.now)) }
+    ensures vars { f.new.vars ≡ f.old.vars }
+{
+    let _ = f.vars();
+    let mut var = 264;
+    let mut earlier = None;
+    for place in 0..u.len() as u32 {
+        let pattern = pattern(alloc, &u.rule(place).matching)?;
+        push_implied(alloc, f, var, pattern.items())?;
+        push_link(alloc, f, var, earlier)?;
+        earlier = Some(true_at(var + 1));
+        var += 2;
+    }
+    Ok(())
+}

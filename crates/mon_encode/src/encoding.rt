@@ -1,0 +1,94 @@
+//! Cases as formulas.
+
+ghost use Rattle.std.specs.Prelude.{◌≡◌, ℕ, ◌+◌, ◌*◌, Bool, true, length, IfOk, OnOk};
+ghost use Rattle.mon_cnf.specs.Truth.{formula_true};
+ghost use Rattle.mon_header.specs.declared.header.Header.{Header};
+ghost use Rattle.mon_table.specs.Tables.{IsTable};
+ghost use Rattle.mon_outcome.specs.declared.emission.Emission.{Emission};
+ghost use Rattle.mon_shows.specs.Separation.{without_update, separates};
+ghost use Rattle.mon_literals.specs.Clauses.{appended};
+ghost use Rattle.mon_encode.specs.Cases.{IsCaseOf, BelongsTo, shape_of};
+ghost use Rattle.mon_encode.specs.Formulas.{clauses_in, clauses_of, formula_of, decoded};
+ghost use Rattle.mon_encode.specs.Keeping.{HasWinner};
+
+use crate::case::Case;
+use crate::chain::push_chain;
+use crate::hidden::{push_hidden, push_not_missed};
+use crate::keeping::look_at;
+use crate::showing::{can_show, shape_of};
+use crate::undone::{Undone, without_update};
+use crate::winning::push_winning;
+use mon_cnf::{Clause, Formula, OutOfMemory};
+use mon_job::Job;
+use mon_literals::push_class;
+use mon_outcome::Shape;
+use std::alloc::Global;
+
+/// How many variables the formulas of a job have. More rules than leave them a `u32` find no memory long before.
+pub(crate) fn vars_of(u: &Undone) -> Result<u32, OutOfMemory>
+    ensures { IfOk result (λ vars. vars ≡ 264 + 2 * length u.now) }
+{
+    let vars = 264 + 2 * u.len();
+    if vars > u64::from(u32::MAX) {
+        return Err(OutOfMemory);
+    }
+    Ok(vars as u32)
+}
+
+/// Appends the clauses of a case.
+fn push_clauses(
+    alloc: Global,
+    f: &mut Formula,
+    j: &Job,
+    u: &Undone,
+    c: &Case,
+    shape: Option<Shape>,
+) -> Result<(), OutOfMemory>
+    requires vars { f.old.vars ≡ 264 + 2 * length u.now }
+    requires table { IsTable u.now }
+    requires within { HasWinner j.now.table c.now.winner }
+    requires shape { shape ≡ shape_of j.now.table c.now }
+    ensures { OnOk result (f.new ≡ appended f.old (clauses_in j.now.view j.now.table u.now c.now)) }
+{
+    push_class(alloc, f, &j.view, c.class, c.in_port)?;
+    push_winning(alloc, f, &j.table, c.winner)?;
+    push_chain(alloc, f, u)?;
+    push_hidden(alloc, f, u, c.class, c.in_port, shape)?;
+    push_not_missed(alloc, f, u, shape)
+}
+
+/// The formula of a case.
+#[tactic(auto, unfolding(crate::specs::Formulas::clauses_of))]
+fn formula(alloc: Global, j: &Job, c: &Case) -> Result<Formula, OutOfMemory>
+    requires table { IsTable (without_update j.now.table j.now.target) }
+    requires within { HasWinner j.now.table c.now.winner }
+    ensures { IfOk result (λ f. f ≡ formula_of j.now c.now) }
+{
+    let u = without_update(j);
+    let mut f = Formula::new(alloc, vars_of(&u)?);
+    let shape = shape_of(alloc, &j.table, c)?;
+    if !can_show(j, c, shape) {
+        f.push(Clause::new(alloc))?;
+        return Ok(f);
+    }
+    push_clauses(alloc, &mut f, j, &u, c, shape)?;
+    Ok(f)
+}
+
+/// The formula of a case, over the bits of a header and two helper variables for each rule of the table without the
+/// update. An assignment that satisfies it decodes to a header and an emission that separate and belong to the case,
+/// and there is one for each header that separates and belongs to it. A case whose emission can never show anything has
+/// the empty clause alone.
+pub fn encode(alloc: Global, j: &Job, c: &Case) -> Result<Formula, OutOfMemory>
+    requires { IsCaseOf j.now c.now }
+    ensures value { IfOk result (λ f. f ≡ formula_of j.now c.now) }
+    ensures sound { (v : ℕ → Bool) → formula_true v (formula_of j.now c.now).clauses ≡ true
+        → separates j.now.view j.now.table j.now.target (decoded j.now c.now v).0 (decoded j.now c.now v).1 ≡ true }
+    ensures complete { (h : Header) (e : Emission) → separates j.now.view j.now.table j.now.target h e ≡ true
+        → BelongsTo j.now c.now h e → (v : ℕ → Bool) × (formula_true v (formula_of j.now c.now).clauses ≡ true) }
+{
+    look_at(j);
+    // Only a look at the number shows that it fits.
+    let _in_port = c.in_port;
+    formula(alloc, j, c)
+}

@@ -1,0 +1,165 @@
+//! What the table without the update cannot show.
+
+ghost use Rattle.std.specs.Prelude.{◌≡◌, ◌≤◌, ◌+◌, ◌*◌, ◌++◌, ◌∷◌, [], length, nat_lt, if◌then◌else◌, IfOk, OnOk};
+ghost use Rattle.mon_cnf.specs.Truth.{Within};
+ghost use Rattle.mon_table.specs.Tables.{IsTable};
+ghost use Rattle.mon_literals.specs.Clauses.{appended};
+ghost use Rattle.mon_encode.specs.Clauses.{listed, same_door, apart, or_apart, or_all_apart, or_hidden, unmatched, above, hidden, matched, not_missed};
+
+use crate::clauses::{joined, true_at, unmatched};
+use crate::undone::Undone;
+use mon_cnf::{Clause, Formula, Lit, OutOfMemory};
+use mon_literals::differ;
+use mon_outcome::{Class, Door, Shape, any_unknown, rewrites};
+use mon_table::Rule;
+use std::alloc::Global;
+
+/// Whether both doors lead to one port, or to the controller.
+fn same_door(one: Door, other: Door) -> bool
+    ensures { result ≡ same_door one other }
+{
+    match (one, other) {
+        (Door::Port(p), Door::Port(q)) => p == q,
+        (Door::Controller { .. }, Door::Controller { .. }) => true,
+        _ => false,
+    }
+}
+
+/// The clause that says that what leaves by a rule's shape differs from the case's emission, or `None` where it always
+/// does.
+fn apart(alloc: Global, shape: Option<Shape>, other: &Shape) -> Result<Option<Clause>, OutOfMemory>
+    ensures { IfOk result (λ d. d ≡ apart shape other.now) }
+{
+    match shape {
+        Some(shape) if same_door(other.door, shape.door) => {
+            differ(alloc, &other.bits, &shape.bits)
+        }
+        _ => Ok(None),
+    }
+}
+
+/// One of these literals is true, or what leaves by each of the shapes differs.
+fn push_all_apart(
+    alloc: Global,
+    f: &mut Formula,
+    base: &[Lit],
+    shape: Option<Shape>,
+    shapes: &[Shape],
+) -> Result<(), OutOfMemory>
+    requires vars { 264 ≤ f.old.vars }
+    requires within { Within f.old.vars base.now }
+    ensures pushed { OnOk result (f.new ≡ appended f.old (or_all_apart base.now shape shapes.now)) }
+    ensures vars { f.new.vars ≡ f.old.vars }
+{
+    for other in shapes {
+        if let Some(difference) = apart(alloc, shape, other)? {
+            f.push(joined(alloc, base, difference.items())?)?;
+        }
+    }
+    Ok(())
+}
+
+/// One of these literals is true, or the rule cannot show the emission.
+fn push_or_hidden(
+    alloc: Global,
+    f: &mut Formula,
+    base: Clause,
+    class: Class,
+    in_port: u16,
+    shape: Option<Shape>,
+    rule: &Rule,
+) -> Result<(), OutOfMemory>
+    requires vars { 264 ≤ f.old.vars }
+    requires within { Within f.old.vars base }
+    ensures pushed { OnOk result (f.new ≡ appended f.old (or_hidden base class in_port shape rule.now)) }
+    ensures vars { f.new.vars ≡ f.old.vars }
+{
+    if any_unknown(rule.actions.items()) {
+        return f.push(base);
+    }
+    let shapes = rewrites(alloc, &rule.actions, class, in_port)?;
+    push_all_apart(alloc, f, base.items(), shape, shapes.items())
+}
+
+/// The clause that says that the rule does not match, or one of a higher effective priority does.
+fn beneath(alloc: Global, rule: &Rule, above: Option<Lit>) -> Result<Clause, OutOfMemory>
+    ensures { IfOk result (λ clause. clause ≡ unmatched rule.now ++ listed above) }
+{
+    let mut clause = unmatched(alloc, rule)?;
+    if let Some(literal) = above {
+        clause.push(literal)?;
+    }
+    Ok(clause)
+}
+
+/// What says that a rule of a higher effective priority matches: the second helper of the rule before where that has a
+/// higher one itself, and else what said so of it.
+fn higher(own: u32, before: u32, last: Option<Lit>, above: Option<Lit>) -> Option<Lit>
+    ensures { result ≡ (if nat_lt own before then last else above) }
+{
+    if own < before { last } else { above }
+}
+
+/// None of the rules wins and can show the emission.
+pub(crate) fn push_hidden(
+    alloc: Global,
+    f: &mut Formula,
+    u: &Undone,
+    class: Class,
+    in_port: u16,
+    shape: Option<Shape>,
+) -> Result<(), OutOfMemory>
+    requires vars { f.old.vars ≡ 264 + 2 * length u.now }
+    requires table { IsTable u.now }
+    ensures pushed { OnOk result (f.new ≡ appended f.old (hidden 264 class in_port shape u.now u.now)) }
+    ensures vars { f.new.vars ≡ f.old.vars }
+{
+    let _ = f.vars();
+    let mut before = 0;
+    let mut above = None;
+    let mut last = None;
+    let mut var = 264;
+    for place in 0..u.len() as u32 {
+        let rule = u.rule(place);
+        let own = rule.rank();
+        above = higher(own, before, last, above);
+        let base = beneath(alloc, rule, above)?;
+        push_or_hidden(alloc, f, base, class, in_port, shape, rule)?;
+        before = own;
+        last = Some(true_at(var + 1));
+        var += 2;
+    }
+    Ok(())
+}
+
+/// The clause that says that some rule matches: the second helper of the last one does, where there is one.
+fn matched(alloc: Global, u: &Undone, vars: u32) -> Result<Clause, OutOfMemory>
+    requires { vars ≡ 264 + 2 * length u.now }
+    ensures value { IfOk result (λ clause. clause ≡ matched 264 [] u.now) }
+    ensures within { IfOk result (Within vars) }
+{
+    let mut clause = Clause::new(alloc);
+    if vars <= 264 {
+        return Ok(clause);
+    }
+    clause.push(true_at(vars - 1))?;
+    Ok(clause)
+}
+
+/// The emission is no miss of a header that no rule matches.
+pub(crate) fn push_not_missed(
+    alloc: Global,
+    f: &mut Formula,
+    u: &Undone,
+    shape: Option<Shape>,
+) -> Result<(), OutOfMemory>
+    requires { f.old.vars ≡ 264 + 2 * length u.now }
+    ensures pushed { OnOk result (f.new ≡ appended f.old (not_missed 264 shape u.now)) }
+    ensures vars { f.new.vars ≡ f.old.vars }
+{
+    let vars = f.vars();
+    match shape {
+        Some(_) => Ok(()),
+        None => f.push(matched(alloc, u, vars)?),
+    }
+}

@@ -1,0 +1,92 @@
+//! What a case's emission can show whatever the header.
+
+ghost use Rattle.std.specs.Prelude.{◌≡◌, ◌&&◌, IfOk};
+ghost use Rattle.mon_encode.specs.Cases.{winner_at, shape_of, given};
+ghost use Rattle.mon_encode.specs.Formulas.{tagged, is_known, comes_back};
+ghost use Rattle.mon_encode.specs.Keeping.{HasWinner};
+
+use crate::case::Case;
+use mon_header::Header;
+use mon_job::Job;
+use mon_list::OutOfMemory;
+use mon_outcome::{Door, Emission, Shape, any_unknown, rewrites};
+use mon_shows::{View, caught};
+use mon_table::Table;
+use std::alloc::Global;
+
+/// The shape of a case's emission; a miss has none.
+pub(crate) fn shape_of(alloc: Global, t: &Table, c: &Case) -> Result<Option<Shape>, OutOfMemory>
+    requires { HasWinner t.now c.now.winner }
+    ensures { IfOk result (λ shape. shape ≡ shape_of t.now c.now) }
+{
+    match c.winner {
+        Some(place) => {
+            let shapes = rewrites(alloc, &t.rule(place).actions, c.class, c.in_port)?;
+            Ok(shapes.items().get(c.emission as usize).copied())
+        }
+        None => Ok(None),
+    }
+}
+
+/// What a header gives by a shape, or as a miss, and whether that shows the whole packet.
+fn given(shape: Option<Shape>, h: &Header) -> (Emission, bool)
+    ensures { result ≡ given shape h.now }
+{
+    match shape {
+        Some(shape) => {
+            let shown = shape.bits.filled(h);
+            match shape.door {
+                Door::Port(port) => (Emission::Port(port, shown), true),
+                Door::Controller { whole } => (Emission::Controller(shown), whole),
+            }
+        }
+        None => (Emission::Miss(*h), true),
+    }
+}
+
+/// A header with nothing but a tag.
+fn tagged(tag: u16) -> Header
+    ensures { result ≡ tagged tag }
+{
+    Header {
+        in_port: 0,
+        dl_src: 0,
+        dl_dst: 0,
+        dl_vlan: tag,
+        dl_vlan_pcp: 0,
+        dl_type: 0,
+        nw_tos: 0,
+        nw_proto: 0,
+        nw_src: 0,
+        nw_dst: 0,
+        tp_src: 0,
+        tp_dst: 0,
+    }
+}
+
+/// Whether no action of the winner is unknown.
+fn is_known(t: &Table, winner: Option<u32>) -> bool
+    requires { HasWinner t.now winner }
+    ensures { result ≡ is_known (winner_at t.now winner) }
+{
+    match winner {
+        Some(place) => !any_unknown(t.rule(place).actions.items()),
+        None => true,
+    }
+}
+
+/// Whether the emission shows the whole packet and comes back, whatever the header.
+fn comes_back(view: &View, shape: Option<Shape>) -> bool
+    ensures { result ≡ comes_back view.now shape }
+{
+    let (emission, whole) = given(shape, &tagged(view.tag));
+    whole && caught(view, &emission)
+}
+
+/// Whether the case's emission can show anything at all: no action of the winner is unknown, and it comes back whole.
+pub(crate) fn can_show(j: &Job, c: &Case, shape: Option<Shape>) -> bool
+    requires { HasWinner j.now.table c.now.winner }
+    ensures { result ≡ (is_known (winner_at j.now.table c.now.winner) && comes_back j.now.view shape) }
+{
+    is_known(&j.table, c.winner) && comes_back(&j.view, shape)
+}
