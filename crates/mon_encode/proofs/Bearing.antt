@@ -1,5 +1,6 @@
 -- What the values of an assignment say of the header that it bears, and of the formula of a case.
-use Rattle.std.proofs.Common.{◌≡◌, ℕ, ◌<◌, ◌^◌, Bool, true, List, Option, Some, None, refl, zero, suc, [], ◌∷◌, length, sym, subst, arith, ⊎_elim}
+use Rattle.mon_encode.proofs.Emitting.{Meets}
+use Rattle.std.proofs.Common.{◌≡◌, ℕ, ◌<◌, ◌^◌, Bool, true, List, Option, Some, None, refl, zero, suc, [], ◌∷◌, length, sym, subst, arith, ⊎_elim, ap₂, ◌∙◌, ap}
 use Rattle.std.specs.List.{slice_get}
 use Rattle.mon_cnf.specs.declared.clause.Lit.{Lit}
 use Rattle.mon_cnf.specs.Truth.{values_of, formula_true}
@@ -11,6 +12,7 @@ use Rattle.mon_outcome.specs.declared.emission.Emission.{Emission}
 use Rattle.mon_outcome.specs.declared.rewrite.Rewrite.{Rewrite}
 use Rattle.mon_outcome.specs.Emitting.{same_header}
 use Rattle.mon_outcome.specs.Filling.{filled}
+use Rattle.mon_shows.specs.Views.{IsView}
 use Rattle.mon_shows.specs.Separation.{taken_back, without_update, separates}
 use Rattle.mon_job.specs.Jobs.{Task}
 use Rattle.mon_literals.specs.Bearing.{Bears, borne}
@@ -20,12 +22,13 @@ use Rattle.mon_literals.proofs.Patterns.{pattern_true}
 use Rattle.mon_literals.proofs.Probes.{class_true}
 use Rattle.mon_literals.proofs.Values.{borne_is_borne}
 use Rattle.mon_encode.specs.declared.case.Case.{Case}
-use Rattle.mon_encode.specs.Cases.{IsCaseOf, BelongsTo}
+use Rattle.mon_encode.specs.Cases.{IsCaseOf, BelongsTo, shape_of, given}
 use Rattle.mon_encode.specs.Formulas.{clauses_of, decoded, encoded}
 use Rattle.mon_encode.specs.Keeping.{Kept, HasWinner}
 use Rattle.mon_encode.proofs.Truth.{Denies}
 use Rattle.mon_encode.proofs.Exact.{Literals}
 use Rattle.mon_encode.proofs.Casing.{Founded, case-fact}
+use Rattle.mon_encode.proofs.Covering.{crafted, has-tag, separated}
 use Rattle.mon_encode.proofs.Deciding.{undone-is, models-show, showing-satisfies}
 use Rattle.mon_encode.proofs.Helping.{encoded-bears, encoded-helped}
 
@@ -72,3 +75,24 @@ winner-within j c k i = ⊎_elim
 
 pub undone-table : (j : Task) → Kept j → IsTable (without_update j.table j.target)
 undone-table j k = after-table j.table (taken_back j.target) k.table k.back_normal
+
+-- the header of a model is of the case's class and port, and bears the view's tag
+pub shows-meets : (j : Task) (c : Case) (h : Header) (e : Emission) → IsView j.view → separates j.view j.table j.target h e ≡ true → BelongsTo j c h e → Meets c.class c.in_port h
+shows-meets j c h e i y o =
+    let s = separated j.view j.table j.target h e y in
+    let g = crafted j.view h s.crafted in
+    record { is_class = o.class; came_in = o.in_port; has_tag = has-tag j.view h i g.tag }
+
+pub model-meets : (j : Task) (c : Case) (v : ℕ → Bool) → c.in_port < 2 ^ 16 → Kept j → IsCaseOf j c → formula_true v (clauses_of j c) ≡ true → Meets c.class c.in_port (borne v)
+unfolding decoded
+model-meets j c v small k i f =
+    let s = decoded-shows j c v small k i f in
+    shows-meets j c (decoded j c v).0 (decoded j c v).1 k.view s.0 s.1
+
+pub decoded-is : (j : Task) (c : Case) (v : ℕ → Bool) (h : Header) (e : Emission) → h ≡ borne v → e ≡ (given (shape_of j.table c) h).0 → (h, e) ≡ decoded j c v
+unfolding decoded
+decoded-is j c v h e a b = ap₂ (λ (x : Header) (y : Emission). (x, y)) a (b ∙ ap (λ (x : Header). (given (shape_of j.table c) x).0) a)
+
+-- a winner's place is in the table
+pub placed-within : (t : List Rule) (winner : Option ℕ) (place : ℕ) → winner ≡ Some place → HasWinner t winner → place < length t
+placed-within t winner place e w = subst (HasWinner t) e w

@@ -1,6 +1,6 @@
 -- What a job's cases are: each of them has a link, a winner that stands in the table and an emission of it, and each such
 -- one is a case.
-use Rattle.std.proofs.Common.{◌≡◌, ℕ, zero, suc, ◌+◌, true, List, [], ◌∷◌, Option, Some, None, refl, sym, ap, subst, ◌∙◌, arith, inl, inr, ◌⊎◌, ⊎_elim}
+use Rattle.std.proofs.Common.{◌≡◌, ℕ, zero, suc, ◌+◌, true, List, [], ◌∷◌, Option, Some, None, refl, sym, ap, subst, ◌∙◌, arith, inl, inr, ◌⊎◌, ⊎_elim, drop, drop-cons, append_assoc, add-one, length, ◌<◌, ◌++◌}
 use Rattle.std.specs.Prelude.{◌==◌}
 use Rattle.std.specs.List.{slice_get, Contains}
 use Rattle.std.proofs.lemmas.List.Elements.{Contains-append_left, Contains-append_right, Contains-append_cases}
@@ -227,3 +227,15 @@ class-in t x links Plain c i =
 pub case-in : (j : Task) (class : Class) (in_port : ℕ) (c : Case) → has_link in_port j.view.links ≡ true → Contains (by_winner j.table j.target class in_port) c → IsCaseOf j c
 unfolding cases_of
 case-in j class in_port c l i = class-in j.table j.target j.view.links class c (port-in j.table j.target class j.view.links in_port c l i)
+
+-- one more position
+pub position-more : (front new : List Case) (class : Class) (in_port : ℕ) (winner : Option ℕ) (n : ℕ) (shapes : List Shape) (all : List Case) → n < length shapes
+    → new ≡ front ++ case class in_port winner n ∷ [] → front ++ by_position class in_port winner n (drop n shapes) ≡ all
+    → new ++ by_position class in_port winner (n + 1) (drop (n + 1) shapes) ≡ all
+position-more front new class in_port winner n [] all lt e s = absurd (omega arith)
+position-more front new class in_port winner n (shape ∷ shapes) all lt e s =
+    let rest = λ (m : ℕ). by_position class in_port winner m (drop m (shape ∷ shapes)) in
+    ap (λ (cs : List Case). cs ++ rest (n + 1)) e
+    ∙ (append_assoc front (case class in_port winner n ∷ []) (rest (n + 1))
+    ∙ (ap (λ (m : ℕ). front ++ (case class in_port winner n ∷ rest m)) (add-one n)
+    ∙ (sym (ap (λ (xs : List Shape). front ++ by_position class in_port winner n xs) (drop-cons (shape ∷ shapes) n shape lt)) ∙ s)))

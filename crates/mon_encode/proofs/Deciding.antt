@@ -37,9 +37,9 @@ use Rattle.mon_encode.specs.Cases.{IsCaseOf, winner_at, shape_at, shape_of, give
 use Rattle.mon_encode.specs.Clauses.{winning}
 use Rattle.mon_encode.specs.Formulas.{is_known, comes_back, clauses_in, clauses_of, tagged}
 use Rattle.mon_encode.specs.Keeping.{AllActionsFit, Kept}
-use Rattle.mon_literals.proofs.Shapes.{shapes_fit}
+use Rattle.mon_encode.proofs.Fitting.{AllFitFields, shapes-fit}
 use Rattle.mon_encode.proofs.Chaining.{Falls, Helped}
-use Rattle.mon_encode.proofs.Emitting.{Meets, AllFitFields, FitsShape, must-there, must-back, given-caught, given-whole}
+use Rattle.mon_encode.proofs.Emitting.{Meets, FitsShape, must-there, must-back, given-caught, given-whole}
 use Rattle.mon_encode.proofs.Exact.{Literals, all-read, winning-there, winning-back, missing-there, missing-back, Undone, hiding_clauses, impossible-there, impossible-back}
 use Rattle.mon_encode.proofs.Casing.{Founded, case-fact}
 use Rattle.mon_encode.proofs.Covering.{crafted, has-tag, separated}
@@ -112,7 +112,7 @@ rule-won v h t class in_port place r emission shape l table fits g s =
     record {
       there = λ f. winning-there v h t place r read g f ∙ sym list;
       back = λ e. winning-back v h t place r read g (e ∙ list);
-      fit = subst FitsShape (sym is) (shape-fits (shapes_of r.actions class in_port) emission shape (shapes_fit r.actions class in_port (rule-fits t place r fits g)) s);
+      fit = subst FitsShape (sym is) (shape-fits (shapes_of r.actions class in_port) emission shape (shapes-fit class in_port r.actions (rule-fits t place r fits g)) s);
       sure = λ m e k w.
           let known : any_unknown r.actions ≡ false = not-true _ (subst (λ (o : Option Rule). is_known o ≡ true) g k) in
           let whole : (emitted_by h shape).1 ≡ true = sym (ap (λ (o : Option Shape). (given o h).1) is) ∙ w in

@@ -1,7 +1,8 @@
 -- What rules emit of the headers of a case, and which clauses say that they do not.
 use Rattle.std.proofs.Common.{◌≡◌, ◌≢◌, ℕ, zero, suc, Bool, true, false, not, cond, ◌&&◌, ◌||◌, List, [], ◌∷◌, map, Option, Some, None, refl, sym, ap, subst, ◌∙◌, ⊎_elim}
 use Rattle.std.specs.Prelude.{◌==◌}
-use Rattle.std.specs.List.{slice_get, list_any, AllByRecursion}
+use Rattle.std.specs.Option.{option_map}
+use Rattle.std.specs.List.{slice_get, list_any}
 use Rattle.std.proofs.lemmas.Bool.{and_parts, and_from, or_left, or_right, or_cases, not-true, not_from_false, false≢true}
 use Rattle.mon_cnf.specs.declared.clause.Lit.{Lit}
 use Rattle.mon_cnf.specs.Truth.{clause_true, formula_true}
@@ -17,7 +18,7 @@ use Rattle.mon_outcome.specs.declared.emission.Emission.{Emission}
 use Rattle.mon_outcome.specs.declared.emission.Emission.TheVariants.{Miss}
 use Rattle.mon_outcome.specs.declared.rewrite.Rewrite.{Rewrite}
 use Rattle.mon_outcome.specs.declared.shape.Shape.{Shape}
-use Rattle.mon_outcome.specs.Emitting.{Emitted, any_unknown, emissions, through, same_header, same_emission, is_among, is_among_whole, must, may}
+use Rattle.mon_outcome.specs.Emitting.{Emitted, any_unknown, emissions, emission_at, through, same_header, same_emission, is_among, is_among_whole, must, may}
 use Rattle.mon_outcome.specs.Filling.{filled, filled_field}
 use Rattle.mon_outcome.specs.Shaping.{shapes_of, emitted_by}
 use Rattle.mon_outcome.proofs.Equality.{emission-same}
@@ -25,11 +26,12 @@ use Rattle.mon_outcome.proofs.Rewriting.{shapes-emit}
 use Rattle.mon_shows.specs.Links.{link_at}
 use Rattle.mon_shows.specs.Views.{Viewing, is_caught_by, caught}
 use Rattle.mon_literals.specs.Differing.{FitsFields, differ}
-use Rattle.mon_encode.specs.Cases.{given}
+use Rattle.mon_encode.specs.declared.case.Case.{Case}
+use Rattle.mon_encode.specs.Cases.{winner_at, shape_at, shape_of, given}
 use Rattle.mon_encode.specs.Clauses.{same_door, apart, or_all_apart, or_hidden}
 use Rattle.mon_encode.specs.Formulas.{tagged}
 use Rattle.mon_encode.proofs.Truth.{Denies, or_apart_true, or_no, or_yes, and_yes}
-use Rattle.mon_literals.proofs.Shapes.{shapes_fit}
+use Rattle.mon_encode.proofs.Fitting.{AllFitFields, shapes-fit}
 
 -- the header is of a case's class and port, and bears a tag
 pub record Meets (class : Class) (in_port : ℕ) (h : Header) : Type 0 where
@@ -59,10 +61,6 @@ Differs v h = (a b : Rewrite) → FitsFields a → FitsFields b → Denies v (sa
 abbrev pub FitsShape : Option Shape → Type 0
 FitsShape None = Unit {0}
 FitsShape (Some shape) = FitsFields shape.bits
-
--- the values that shapes fix fit
-abbrev pub AllFitFields : List Shape → Type 0
-AllFitFields shapes = AllByRecursion (λ s. FitsFields s.bits) shapes
 
 denies-port : (v : ℕ → Bool) (p q : ℕ) (b : Bool) (d : Option (List Lit)) → Denies v b d → Denies v ((p == q) && b) (cond (p == q) d None)
 denies-port v p q b d e = elim (p == q) as (λ x. Denies v (x && b) (cond x d None)) [ true ↦ e | false ↦ refl ]
@@ -98,7 +96,7 @@ unknown-step v base m false cs f = f
 pub or-hidden-true : (v : ℕ → Bool) (h : Header) (base : List Lit) (class : Class) (in_port : ℕ) (shape : Option Shape) (r : Rule) → Differs v h → FitsShape shape → AllFit r.actions
     → Meets class in_port h → formula_true v (or_hidden base class in_port shape r) ≡ (clause_true v base || not (may r.actions h (given shape h).0))
 or-hidden-true v h base class in_port shape r differs f g m =
-    unknown-step v base _ (any_unknown r.actions) _ (all-apart-true v h base shape (shapes_of r.actions class in_port) differs f (shapes_fit r.actions class in_port g))
+    unknown-step v base _ (any_unknown r.actions) _ (all-apart-true v h base shape (shapes_of r.actions class in_port) differs f (shapes-fit class in_port r.actions g))
     ∙ ap (λ (b : Bool). clause_true v base || not b) (sym (may-is r.actions class in_port h (given shape h).0 m))
 
 -- what a winner must show: the emission of a shape that shows the whole packet, where no action is unknown
@@ -161,3 +159,38 @@ given-caught v (Some shape) h tag e = through-caught v shape.door (filled shape.
 pub given-whole : (shape : Option Shape) (h k : Header) → (given shape h).1 ≡ (given shape k).1
 given-whole None h k = refl
 given-whole (Some shape) h k = through-whole shape.door (filled shape.bits h) (filled shape.bits k)
+
+-- the emission at a position
+at-map : (h : Header) (shapes : List Shape) (position : ℕ) → emission_at (map (emitted_by h) shapes) position ≡ option_map (λ shape. (emitted_by h shape).0) (slice_get shapes position)
+at-map h [] position = refl
+at-map h (shape ∷ shapes) zero = refl
+at-map h (shape ∷ shapes) (suc position) = at-map h shapes position
+
+emission-is : (actions : List Action) (class : Class) (in_port : ℕ) (h : Header) (position : ℕ) → Meets class in_port h
+    → emission_at (emissions actions h) position ≡ option_map (λ shape. (emitted_by h shape).0) (slice_get (shapes_of actions class in_port) position)
+emission-is actions class in_port h position m =
+    ap (λ (ms : List Emitted). emission_at ms position) (sym (emitted actions class in_port h m)) ∙ at-map h (shapes_of actions class in_port) position
+
+-- what it is, is what the shape there gives
+given-some : (h : Header) (shape : Option Shape) (e : Emission) → option_map (λ shape. (emitted_by h shape).0) shape ≡ Some e → e ≡ (given shape h).0
+given-some h None e y = absurd (let z : ⊥ = cc in z)
+given-some h (Some shape) e y = let same : (emitted_by h shape).0 ≡ e = cc in sym same
+
+given-none : (h : Header) (shape : Option Shape) → option_map (λ shape. (emitted_by h shape).0) shape ≡ None → Miss h ≡ (given shape h).0
+given-none h None y = refl
+given-none h (Some shape) y = absurd (let z : ⊥ = cc in z)
+
+-- the shape of a case whose winner is a rule
+shape-is : (t : List Rule) (c : Case) (place : ℕ) (r : Rule) → c.winner ≡ Some place → slice_get t place ≡ Some r → shape_of t c ≡ slice_get (shapes_of r.actions c.class c.in_port) c.emission
+shape-is t c place r w g =
+    ap (λ (o : Option ℕ). shape_at (winner_at t o) c.class c.in_port c.emission) w ∙ ap (λ (o : Option Rule). shape_at o c.class c.in_port c.emission) g
+
+pub some-given : (t : List Rule) (c : Case) (h : Header) (place : ℕ) (r : Rule) (o : Option Emission) (e : Emission) → c.winner ≡ Some place → slice_get t place ≡ Some r → Meets c.class c.in_port h
+    → o ≡ emission_at (emissions r.actions h) c.emission → o ≡ Some e → e ≡ (given (shape_of t c) h).0
+some-given t c h place r o e w g m a b =
+    given-some h (shape_of t c) e (ap (option_map (λ shape. (emitted_by h shape).0)) (shape-is t c place r w g) ∙ (sym (emission-is r.actions c.class c.in_port h c.emission m) ∙ (sym a ∙ b)))
+
+pub none-given : (t : List Rule) (c : Case) (h : Header) (place : ℕ) (r : Rule) (o : Option Emission) → c.winner ≡ Some place → slice_get t place ≡ Some r → Meets c.class c.in_port h
+    → o ≡ emission_at (emissions r.actions h) c.emission → o ≡ None → Miss h ≡ (given (shape_of t c) h).0
+none-given t c h place r o w g m a b =
+    given-none h (shape_of t c) (ap (option_map (λ shape. (emitted_by h shape).0)) (shape-is t c place r w g) ∙ (sym (emission-is r.actions c.class c.in_port h c.emission m) ∙ (sym a ∙ b)))

@@ -13,3 +13,4 @@ pub mod Standing
 pub mod Bearing
 pub mod Pushing
 pub mod Above
+pub mod Fitting

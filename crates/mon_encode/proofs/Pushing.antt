@@ -1,5 +1,5 @@
 -- Steps of the code that appends clauses.
-use Rattle.std.proofs.Common.{◌≡◌, ℕ, suc, ◌+◌, ◌<◌, ◌≤◌, sym, ap, ◌∙◌, List, [], ◌∷◌, ◌++◌, length, map, get_or, drop, drop-cons, add-one, append_assoc, Option, Some, None, Result, Ok, Err, OnOk, true, false, cond}
+use Rattle.std.proofs.Common.{◌≡◌, ℕ, suc, ◌+◌, ◌<◌, ◌≤◌, sym, ap, ◌∙◌, List, [], ◌∷◌, ◌++◌, length, map, get_or, drop, drop-cons, add-one, append_assoc, Option, Some, None, Result, Ok, Err, OnOk, IfOk, true, false, cond}
 use Rattle.std.specs.List.{slice_get}
 use Rattle.mon_cnf.specs.declared.clause.Lit.{Lit}
 use Rattle.mon_cnf.specs.Formulas.{Cnf}
@@ -80,3 +80,7 @@ hidden-more f g class in_port shape n base high t r all lt e b h p s =
     ∙ (append_assoc f.clauses (or_hidden base class in_port shape r) rest
     ∙ (ap (λ (ls : List Lit). f.clauses ++ (or_hidden ls class in_port shape r ++ rest)) (b ∙ ap (λ (ls : List Lit). unmatched r ++ ls) (sym h))
     ∙ (sym (ap (λ (rs : List Rule). f.clauses ++ hidden 264 class in_port shape t rs) (from-here t n r lt e)) ∙ s)))
+
+pub if-ok : {T E : Type 0} (r : Result T E) (P Q : T → Type 0) → ((x : T) → P x → Q x) → IfOk r P → IfOk r Q
+if-ok (Ok x) P Q f p = f x p
+if-ok (Err e) P Q f p = p

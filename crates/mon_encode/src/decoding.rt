@@ -1,0 +1,113 @@
+//! Models of a case's formula, and headers.
+
+ghost use Rattle.std.specs.Prelude.{◌≡◌, ◌≢◌, ◌<◌, ◌+◌, ◌*◌, ◌^◌, ◌++◌, true, false, length, IfOk, OnOk};
+ghost use Rattle.mon_cnf.specs.Truth.{values_of, formula_true};
+ghost use Rattle.mon_header.specs.Classes.{is_in_class};
+ghost use Rattle.mon_header.specs.Places.{header_bits};
+ghost use Rattle.mon_outcome.specs.declared.emission.Emission.{Emission};
+ghost use Rattle.mon_shows.specs.Separation.{separates};
+ghost use Rattle.mon_literals.specs.Bearing.{Bears};
+ghost use Rattle.mon_encode.specs.Cases.{IsCaseOf, BelongsTo, shape_of, given};
+ghost use Rattle.mon_encode.specs.Formulas.{formula_of, decoded, encoded, helpers};
+ghost use Rattle.mon_encode.specs.Keeping.{HasWinner};
+
+use crate::case::Case;
+use crate::encoding::vars_of;
+use crate::keeping::look_at;
+use crate::undone::{Undone, without_update};
+use mon_cnf::{Bits, OutOfMemory};
+use mon_header::{Header, bit, matches};
+use mon_job::Job;
+use mon_literals::borne;
+use mon_outcome::{Emission, emission_at};
+use mon_table::Table;
+use std::alloc::Global;
+
+/// What a header of the case gives.
+fn emission_of(t: &Table, c: &Case, h: &Header) -> Emission
+    requires within { HasWinner t.now c.now.winner }
+    requires class { is_in_class c.now.class h.now ≡ true }
+    requires in_port { h.now.in_port ≡ c.now.in_port }
+    requires tag { h.now.dl_vlan ≢ 0xffff }
+    ensures { result ≡ (given (shape_of t.now c.now) h.now).0 }
+{
+    match c.winner {
+        Some(place) => match emission_at(&t.rule(place).actions, h, c.emission) {
+            Some(emission) => emission,
+            None => Emission::Miss(*h),
+        },
+        None => Emission::Miss(*h),
+    }
+}
+
+/// The header and the emission that a model of the case's formula stands for. They separate, and belong to the case. It
+/// takes no memory.
+pub fn decode_model(j: &Job, c: &Case, values: &[bool]) -> (Header, Emission)
+    requires of { IsCaseOf j.now c.now }
+    requires whole { length values.now ≡ (formula_of j.now c.now).vars }
+    requires model { formula_true (values_of values.now) (formula_of j.now c.now).clauses ≡ true }
+    ensures value { result ≡ decoded j.now c.now (values_of values.now) }
+    ensures separates { separates j.now.view j.now.table j.now.target result.0 result.1 ≡ true }
+    ensures belongs { BelongsTo j.now c.now result.0 result.1 }
+{
+    look_at(j);
+    // Only a look at the number shows that it fits.
+    let _in_port = c.in_port;
+    let header = borne(values);
+    let emission = emission_of(&j.table, c, &header);
+    (header, emission)
+}
+
+/// The bits of a header.
+fn bits_of(alloc: Global, h: &Header) -> Result<Bits, OutOfMemory>
+    ensures { IfOk result (λ bits. bits ≡ header_bits h.now) }
+{
+    let mut bits = Bits::new(alloc);
+    for place in 0..264 {
+        bits.push(bit(h, place))?;
+    }
+    Ok(bits)
+}
+
+/// Appends the helpers of the rules.
+fn push_helpers(values: &mut Bits, u: &Undone, h: &Header) -> Result<(), OutOfMemory>
+    requires { 264 + 2 * length u.now < 2 ^ 32 }
+    ensures { OnOk result (values.new ≡ values.old ++ helpers h.now false u.now) }
+{
+    let mut seen = false;
+    for place in 0..u.len() as u32 {
+        let found = matches(&u.rule(place).matching, h);
+        seen = seen || found;
+        values.push(found)?;
+        values.push(seen)?;
+    }
+    Ok(())
+}
+
+/// The values.
+#[tactic(auto, unfolding(crate::specs::Formulas::encoded))]
+fn values(alloc: Global, j: &Job, h: &Header) -> Result<Bits, OutOfMemory>
+    ensures { IfOk result (λ values. values ≡ encoded j.now h.now) }
+{
+    let u = without_update(j);
+    let _vars = vars_of(&u)?;
+    let mut values = bits_of(alloc, h)?;
+    push_helpers(&mut values, &u, h)?;
+    Ok(values)
+}
+
+/// A model of the case's formula that bears a header which separates and belongs to the case: the header's bits, and for
+/// each rule of the table without the update whether it matches, and whether it or one before it does.
+pub fn encode_header(alloc: Global, j: &Job, c: &Case, h: &Header) -> Result<Bits, OutOfMemory>
+    requires of { IsCaseOf j.now c.now }
+    requires shows { (e : Emission) × (separates j.now.view j.now.table j.now.target h.now e ≡ true) × BelongsTo j.now c.now h.now e }
+    ensures value { IfOk result (λ values. values ≡ encoded j.now h.now) }
+    ensures whole { IfOk result (λ values. length values ≡ (formula_of j.now c.now).vars) }
+    ensures model { IfOk result (λ values. formula_true (values_of values) (formula_of j.now c.now).clauses ≡ true) }
+    ensures bears { IfOk result (λ values. Bears (values_of values) h.now) }
+{
+    look_at(j);
+    // Only a look at the number shows that it fits.
+    let _in_port = c.in_port;
+    values(alloc, j, h)
+}
