@@ -1,0 +1,2 @@
+pub mod CertificateFile
+pub mod Headers
