@@ -18,14 +18,15 @@ use Rattle.mon_edits.specs.Laws.{after_all}
 use Rattle.mon_core.specs.declared.fate.Fate.{Fate}
 use Rattle.mon_core.specs.declared.fate.Fate.TheVariants.{Passed, Refused, Edited}
 
--- the type and the code of the ERROR for a frame of that type that is no FLOW_MOD; reading bytes never finds that memory ran out, so what stands there says nothing
+-- the type and the code of the ERROR for a FLOW_MOD that cannot be read. Reading as a function of the bytes never lacks
+-- memory, so the last line is of no frame
 abbrev pub of_fault : ModFault → Fate
 of_fault faults.ModLength = Refused 1 6
 of_fault faults.ModCommand = Refused 3 4
 of_fault (faults.ActionLength place) = Refused 2 1
 of_fault faults.OutOfMemory = Passed
 
--- those for a FLOW_MOD that is refused, which never is for want of memory
+-- those for a FLOW_MOD that is refused; none is for want of memory
 abbrev pub of_refusal : ModRefusal → Fate
 of_refusal refusals.TooManyActions = Refused 3 2
 of_refusal refusals.Timeouts = Refused 3 2
@@ -34,14 +35,17 @@ of_refusal refusals.OverlapFlag = Refused 3 1
 of_refusal refusals.TableFull = Refused 3 0
 of_refusal refusals.OutOfMemory = Passed
 
+-- the refusal, if there is one, and else the edits
 abbrev pub unless_refused : Option ModRefusal → FlowMod → List Edit → Fate
 unless_refused (Some refused) m edits = of_refusal refused
 unless_refused None m edits = Edited m edits
 
--- one for the emergency table passes, and any other is refused or has its edits; no entry of the proxy's own catches, and no entry that was taken out is waited for
+-- a message for the emergency table passes, and any other is refused or has its edits. The proxy has no entries of its own
+-- yet, and waits for no entry that was taken out
 abbrev pub planned : List Rule → FlowMod → Fate
 planned t m = if is_emergency m then Passed else unless_refused (refusal t [] 0 m) m (edits_of t m)
 
+-- a message, or the fault with which it could not be read
 abbrev pub of_reading : List Rule → Result FlowMod ModFault → Fate
 of_reading t (Ok m) = planned t m
 of_reading t (Err fault) = of_fault fault
@@ -52,7 +56,7 @@ IsPlanned t Passed = Unit {0}
 IsPlanned t (Refused kind code) = Unit {0}
 IsPlanned t (Edited m edits) = (is_emergency m ≡ false) × (edits ≡ edits_of t m)
 
--- a frame that is no FLOW_MOD by its type passes
+-- a frame of another type than FLOW_MOD passes
 abbrev pub fate : List Rule → List ℕ → Fate
 fate t frame = if kind_of frame == 14 then of_reading t (flow_mod_in frame) else Passed
 

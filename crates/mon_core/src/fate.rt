@@ -19,11 +19,11 @@ pub enum Fate {
     Passed,
     /// It goes no further: the controller gets an ERROR of this type and code.
     Refused { kind: u16, code: u16 },
-    /// It is a FLOW_MOD, and its edits go on to the switch.
+    /// It is a FLOW_MOD that does these edits, and they go on to the switch.
     Edited { message: FlowMod, edits: Edits },
 }
 
-/// The ERROR for a frame that is no FLOW_MOD (OpenFlow 1.0.0, error message).
+/// The ERROR for a FLOW_MOD that cannot be read (OpenFlow 1.0.0, error message).
 fn of_fault(fault: ModFault) -> Result<Fate, OutOfMemory>
     ensures value { IfOk result (λ found. found ≡ of_fault fault) }
     ensures found_memory { IfOk result (λ found. fault ≢ faults.OutOfMemory) }

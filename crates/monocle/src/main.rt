@@ -1,11 +1,15 @@
 //! `monocle`, a monitor of data-plane rules: the program.
 //!
-//! `replay SETTINGS TRACE` passes the session of a trace through and writes what was put. `main` makes the desk over
-//! files and the standard streams, and calls `monocle`, whose contract is what is promised of a run.
+//! `replay SETTINGS TRACE` runs the session of a trace and writes what was put, and then the entries that the controller
+//! should have on the switch. `main` makes the desk over files and the standard streams, and calls `monocle`, whose
+//! contract is what is promised of a run.
 #![tactic(auto)]
 
+#[cfg(test)]
+mod mod_tests;
 mod replay;
 mod standard;
+mod tables;
 #[cfg(test)]
 mod tests;
 mod words;

@@ -5,10 +5,10 @@ ghost use Rattle.mon_world.specs.Causes.{Rose};
 ghost use Rattle.mon_world.specs.Files.{with_more, AllOrNothing};
 ghost use Rattle.mon_world.specs.declared.history.Entry.{Entry};
 ghost use Rattle.mon_trace.specs.Grammar.{Traced, trace_of};
-ghost use Rattle.mon_trace.specs.Run.{text};
-ghost use Rattle.monocle.specs.Replay.{IsAnswer, IsRunOf};
+ghost use Rattle.monocle.specs.Replay.{IsAnswer, IsRunOf, answer_of};
 ghost use Rattle.monocle.specs.Words.{IsSaid, unread};
 
+use crate::tables::push_tables;
 use mon_core::{Core, LoopEnd, legal_passes_frames, run_loop};
 use mon_trace::{Trace, TraceFault, TraceHub, read_trace};
 use mon_world::{Desk, DeskFault};
@@ -40,27 +40,32 @@ fn unread<D: Desk>(alloc: Global, desk: &mut D, name: &str) -> u8
     }
 }
 
-/// The text of the history of a trace, or None for want of memory.
+/// The text of the history of a trace and the tables at its end, or None for want of memory.
 fn answer(alloc: Global, trace: Trace) -> Option<Vec<u8>>
-    ensures { IfSome result (λ bytes. (h : List Entry) × IsRunOf trace.events h × (bytes.items ≡ text h)) }
+    ensures { IfSome result (λ bytes. (h : List Entry) × IsRunOf trace.events h × (bytes.items ≡ answer_of h)) }
 {
     let turns = trace.records() + 1;
     let mut core = Core::new(alloc);
     let mut hub = TraceHub::new(alloc, trace).ok()?;
     legal_passes_frames();
     let end = run_loop(alloc, &mut core, &mut hub, turns);
-    let bytes = hub.text();
+    let mut bytes = hub.text();
     match end {
-        LoopEnd::Stopped => Some(bytes),
+        LoopEnd::Stopped => {
+            push_tables(alloc, &core, &mut bytes).ok()?;
+            Some(bytes)
+        }
         LoopEnd::OutOfMemory => None,
         LoopEnd::TurnsUsed | LoopEnd::HubFailed => unreachable!(),
     }
 }
 
-/// Reads the settings and then the trace, runs its session, and writes the text of the history. It answers 0, 3 where
-/// a file can't be read, 5 where the trace isn't one, 6 where writing fails, and 7 for want of memory.
+/// Reads the settings and then the trace, runs its session, and writes the text of the history and the tables at its
+/// end. It answers 0, 3 where a file can't be read, 5 where the trace isn't one, 6 where writing fails, and 7 for want of
+/// memory.
 pub fn replay<D: Desk>(alloc: Global, settings: &str, trace: &str, desk: &mut D) -> u8
-    // What is written at status 0 is the text of a legal history of the trace's events.
+    // What is written at status 0 is the text of a legal history of the trace's events, and behind it the expected
+    // entries of each session that has not ended.
     ensures written { result ≡ 0 → IfSome (D.files desk.old) (λ files. (said : List ℕ) × (bytes : List ℕ)
         × (files trace.now ≡ Some said) × IsAnswer said bytes × (D.written desk.new ≡ with_more bytes (D.written desk.old))) }
     // Nothing is written at another status, but for a part where writing failed.

@@ -6,7 +6,7 @@ use std::alloc::Global;
 use std::test::Fail;
 
 /// A desk with settings and this trace.
-fn desk_with(
+pub(crate) fn desk_with(
     alloc: Global,
     trace: &[u8],
     reads: Places,
@@ -25,7 +25,7 @@ fn desk_with(
 }
 
 /// The words, parted by spaces.
-fn words_of(alloc: Global, line: &str) -> Result<Vec<Text>, Fail> {
+pub(crate) fn words_of(alloc: Global, line: &str) -> Result<Vec<Text>, Fail> {
     let mut words = Vec::new(alloc);
     for word in line.split(' ') {
         words.push(Text::new(alloc, word)?)?;
@@ -33,7 +33,7 @@ fn words_of(alloc: Global, line: &str) -> Result<Vec<Text>, Fail> {
     Ok(words)
 }
 
-const REPLAY: &str = "replay settings.json one.trace";
+pub(crate) const REPLAY: &str = "replay settings.json one.trace";
 
 #[test]
 fn sessions_are_passed_through(rt: HostRuntime) -> Result<(), Fail> {
