@@ -1,6 +1,6 @@
 -- The table without the update, as the parts of the table around a place.
-use Rattle.std.proofs.Common.{◌≡◌, ℕ, zero, suc, ◌+◌, ◌<◌, true, false, List, [], ◌∷◌, ◌++◌, length, take, drop, set, Some, None, refl, sym, ap, subst, ◌∙◌, arith, add-one, ⊎_elim}
-use Rattle.std.specs.List.{slice_get, insert, remove}
+use Rattle.std.proofs.Common.{◌≡◌, ℕ, zero, suc, ◌+◌, ◌<◌, true, false, List, [], ◌∷◌, ◌++◌, length, take, drop, set, Some, None, refl, sym, ap, subst, ◌∙◌, arith, add-one, ⊎_elim, Option}
+use Rattle.std.specs.List.{slice_get, insert, remove, position}
 use Rattle.std.proofs.lemmas.Bool.{cases_Bool}
 use Rattle.mon_header.specs.Matching.{IsNormal}
 use Rattle.mon_table.specs.declared.rule.Rule.{Rule}
@@ -8,7 +8,7 @@ use Rattle.mon_table.specs.Rules.{Identity, identity_of, same_identity}
 use Rattle.mon_table.specs.Tables.{Has, IsTable, rule_of, without, with_rule}
 use Rattle.mon_table.specs.Places.{place_of, stands_at}
 use Rattle.mon_table.proofs.Identities.{same-self}
-use Rattle.mon_table.proofs.Placing.{found-set, found-remove, found-rule, absent-insert}
+use Rattle.mon_table.proofs.Placing.{found-set, found-remove, found-rule, found-position, absent-insert}
 use Rattle.mon_encode.proofs.Updating.{stands-there}
 
 got-stands : (t : List Rule) (n : ℕ) (r : Rule) → slice_get t n ≡ Some r → (stands_at (identity_of r) n t ≡ true) × (n < length t)
@@ -51,3 +51,6 @@ pub counted-in : (t : List Rule) (r : Rule) (n : ℕ) → IsTable t → IsNormal
     → take n t ++ (r ∷ drop n t) ≡ with_rule r t
 counted-in t r n table normal none e =
     ap (λ (m : ℕ). insert t m r) e ∙ absent-insert r t normal table.normal table.order (lacks t (identity_of r) r table none)
+
+pub own-place : (t : List Rule) (r : Rule) (o : Option ℕ) → IsTable t → Has t r → o ≡ position (λ s. same_identity (identity_of s) (identity_of r)) t → o ≡ Some (place_of (identity_of r) t)
+own-place t r o table has e = e ∙ found-position (identity_of r) t table.order (stands t r (identity_of r) table has refl).0

@@ -4,12 +4,13 @@ ghost use Rattle.std.specs.Prelude.{◌≡◌, ◌++◌, true, Some, IfOk, OnOk}
 ghost use Rattle.mon_header.specs.declared.header.Header.{Header};
 ghost use Rattle.mon_outcome.specs.declared.emission.Emission.{Emission};
 ghost use Rattle.mon_shows.specs.Separation.{separates};
+ghost use Rattle.mon_job.specs.Jobs.{IsIn};
 ghost use Rattle.mon_encode.specs.declared.case.Case.{Case};
 ghost use Rattle.mon_encode.specs.Cases.{of_rule, of_miss, of_any, by_winner, by_port, cases_of, IsCaseOf, BelongsTo};
 
 use crate::case::{Case, Cases};
 use crate::keeping::look_at;
-use crate::undone::place_of;
+use crate::undone::own_place;
 use mon_job::Job;
 use mon_list::OutOfMemory;
 use mon_outcome::{Class, rewrites};
@@ -84,11 +85,12 @@ fn push_winners(
     t: &Table,
     x: &Target,
 ) -> Result<(), OutOfMemory>
+    requires { IsIn t.now x.now }
     ensures { OnOk result (cases.new ≡ cases.old ++ by_winner t.now x.now class in_port) }
 {
     match x {
         Target::Put { rule, .. } | Target::Watch { rule } => {
-            push_rule(alloc, cases, class, in_port, place_of(t, rule), rule)
+            push_rule(alloc, cases, class, in_port, own_place(t, rule), rule)
         }
         Target::Cut { .. } => push_any(alloc, cases, class, in_port, t),
     }
@@ -103,6 +105,7 @@ fn push_ports(
     t: &Table,
     x: &Target,
 ) -> Result<(), OutOfMemory>
+    requires { IsIn t.now x.now }
     ensures { OnOk result (cases.new ≡ cases.old ++ by_port t.now x.now class links.now) }
 {
     for near in links.items() {

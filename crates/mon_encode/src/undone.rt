@@ -77,8 +77,18 @@ fn comes_before(rule: &Rule, other: &Rule) -> bool
     rank < own || own == rank && match_before(&rule.matching, &other.matching)
 }
 
-/// The number of rules that stand before a rule in table order.
-pub(crate) fn place_of(t: &Table, rule: &Rule) -> u32
+/// The place of a rule of the table.
+pub(crate) fn own_place(t: &Table, rule: &Rule) -> u32
+    requires { Has t.now rule.now }
+    ensures { result ≡ place_of (identity_of rule.now) t.now }
+{
+    // Only a look at the table shows that its rules are in order.
+    let _ = t.len();
+    t.place(&rule.matching, rule.priority).unwrap()
+}
+
+/// The number of rules that stand before a rule which the table lacks.
+fn place_of(t: &Table, rule: &Rule) -> u32
     ensures value { result ≡ place_of (identity_of rule.now) t.now }
     ensures within { result ≤ length t.now }
 {
@@ -96,7 +106,7 @@ fn left_out<'a>(t: &'a Table, rule: &'a Rule) -> Undone<'a>
     ensures { result ≡ without (identity_of rule.now) t.now }
 {
     let _ = t.len();
-    let place = place_of(t, rule);
+    let place = own_place(t, rule);
     Undone {
         table: t,
         place,
@@ -113,7 +123,7 @@ fn replaced<'a>(t: &'a Table, rule: &'a Rule, old: &'a Rule) -> Undone<'a>
     ensures { result ≡ with_rule old.now t.now }
 {
     let _ = t.len();
-    let place = place_of(t, old);
+    let place = own_place(t, rule);
     Undone {
         table: t,
         place,

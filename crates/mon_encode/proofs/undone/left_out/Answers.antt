@@ -10,4 +10,4 @@ pub invariant_of-result : goal.invariant_of-result
 invariant_of-result c = let s = stands c.args.t.now c.args.rule.now (identity_of c.args.rule.now) c.len.ensures.table c.requires refl in (omega arith, omega arith)
 
 pub returns : goal.returns
-returns c = left-out c.args.t.now c.args.rule.now c.place_of-place.result c.len.ensures.table c.requires c.place_of-place.ensures.value
+returns c = left-out c.args.t.now c.args.rule.now c.own_place-place.result c.len.ensures.table c.requires c.own_place-place.ensures
