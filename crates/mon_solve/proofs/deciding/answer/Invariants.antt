@@ -1,0 +1,12 @@
+use Rattle.std.proofs.Common.{◌≡◌, None, take}
+use Rattle.std.specs.Prelude.{All}
+use Rattle.mon_solve.specs.Answers.{AskedAtLeast, HasNone}
+use Rattle.mon_solve.proofs.deciding.answer.Given as goal
+
+abbrev pub invariant-loop-case : goal.invariant-loop-case
+invariant-loop-case g l = record {
+  floor : g.S.Stop.floor l.stop ≡ l.job.version;
+  shown : g.S.Stop.shown l.stop ≡ None;
+  asked : AskedAtLeast l.case-index (g.S.Stop.asked l.fn.stop) (g.S.Stop.asked l.stop);
+  none : All (HasNone l.job) (take l.case-index l.case-items);
+}

@@ -1,0 +1,43 @@
+-- What is answered to a job, and what was asked for it.
+use Rattle.std.specs.Prelude.{◌≡◌, ℕ, ◌+◌, ◌≤◌, true, false, length, Option, Some, None}
+use Rattle.mon_header.specs.declared.header.Header.{Header}
+use Rattle.mon_outcome.specs.declared.emission.Emission.{Emission}
+use Rattle.mon_refute.specs.Follow.{is_accepted}
+use Rattle.mon_shows.specs.Separation.{separates}
+use Rattle.mon_job.specs.Jobs.{Task}
+use Rattle.mon_job.specs.declared.verdict.Says.{Says}
+use Rattle.mon_job.specs.declared.verdict.Says.TheVariants.{Probe, Indistinguishable, Skipped, NoMemory}
+use Rattle.mon_encode.specs.declared.case.Case.{Case}
+use Rattle.mon_encode.specs.Cases.{cases_of, BelongsTo}
+use Rattle.mon_encode.specs.Formulas.{formula_of}
+use Rattle.mon_solve.specs.declared.found.Found.{Found}
+use Rattle.mon_solve.specs.declared.found.Found.TheVariants as found
+
+-- the version for which a job was given up, as it was last shown, or none
+abbrev pub seen_in : Says → Option ℕ
+seen_in (Probe h e) = None
+seen_in Indistinguishable = None
+seen_in (Skipped seen) = Some seen
+seen_in NoMemory = None
+
+-- how often a stop was asked for an answer, at least: before each case where there is no probe, else once
+abbrev pub least_asked : Task → Says → ℕ
+least_asked j (Probe h e) = 1
+least_asked j Indistinguishable = length (cases_of j)
+least_asked j (Skipped seen) = 1
+least_asked j NoMemory = 0
+
+-- a stop that tells how often it was asked was asked that often
+abbrev pub AskedAtLeast : ℕ → Option ℕ → Option ℕ → Type 0
+AskedAtLeast least None now = Unit {0}
+AskedAtLeast least (Some before) None = ⊥
+AskedAtLeast least (Some before) (Some now) = before + least ≤ now
+
+-- the case has no probe
+abbrev pub HasNone : Task → Case → Type 0
+HasNone j c = (h : Header) (e : Emission) → BelongsTo j c h e → separates j.view j.table j.target h e ≡ false
+
+-- what is found in a case: a probe, or a refutation of its clauses, and it has none
+abbrev pub IsFound : Task → Case → Found → Type 0
+IsFound j c (found.Probe h e) = separates j.view j.table j.target h e ≡ true
+IsFound j c (found.Nothing log) = (is_accepted (formula_of j c).vars (formula_of j c).clauses log ≡ true) × HasNone j c

@@ -1,0 +1,50 @@
+//! Verdicts.
+
+ghost use Rattle.std.specs.Prelude.{◌≡◌, None};
+ghost use Rattle.std.specs.Arc.{arc_value};
+ghost use Rattle.mon_job.specs.Verdicts.{IsTrueOf};
+ghost use Rattle.mon_solve.specs.Answers.{AskedAtLeast, least_asked, seen_in};
+
+use crate::found::{Found, find};
+use crate::stop::Stop;
+use mon_encode::cases;
+use mon_job::{Job, Says, Verdict};
+use std::alloc::Global;
+use std::sync::Arc;
+
+/// What is true of the job.
+fn answer<S: Stop>(alloc: Global, job: &Job, stop: &mut S) -> Says
+    requires unshown { S.shown stop.old ≡ None }
+    requires floor { S.floor stop.old ≡ job.now.version }
+    ensures truth { IsTrueOf job.now result }
+    ensures shown { S.shown stop.new ≡ seen_in result }
+    ensures asked { AskedAtLeast (least_asked job.now result) (S.asked stop.old) (S.asked stop.new) }
+{
+    let Ok(cases) = cases(alloc, job) else {
+        return Says::NoMemory;
+    };
+    for case in cases.items() {
+        if let Some(seen) = stop.ask() {
+            return Says::Skipped { seen };
+        }
+        match find(alloc, job, case) {
+            Ok(Found::Probe(h, e)) => return Says::Probe(h, e),
+            Ok(Found::Nothing(_)) => {}
+            Err(_) => return Says::NoMemory,
+        }
+    }
+    Says::Indistinguishable
+}
+
+/// The verdict on the job. The stop is asked before each case of the job, and the job is skipped where it gives a
+/// version, and only there. Where there is no memory, that is the verdict.
+pub fn decide<S: Stop>(alloc: Global, job: Arc<Job>, stop: &mut S) -> Verdict
+    requires unshown { S.shown stop.old ≡ None }
+    requires floor { S.floor stop.old ≡ (arc_value job).version }
+    ensures same_job { result.job ≡ arc_value job }
+    ensures skipped { S.shown stop.new ≡ seen_in result.says }
+    ensures asked { AskedAtLeast (least_asked result.job result.says) (S.asked stop.old) (S.asked stop.new) }
+{
+    let says = answer(alloc, &job, stop);
+    Verdict::new(job, says)
+}
