@@ -1,0 +1,4 @@
+pub mod Following
+pub mod Planning
+pub mod Checking
+pub mod Counting

@@ -1,0 +1,6 @@
+use Rattle.std.proofs.Common.{take}
+use Rattle.mon_plan.specs.Planning.{Each, IsCertificate}
+use Rattle.mon_plan.proofs.plan.plan_table.Given as goal
+
+abbrev pub invariant-loop-place : goal.invariant-loop-place
+invariant-loop-place l = Each (IsCertificate l.v l.t) (take l.place l.t) l.certificates

@@ -1,0 +1,68 @@
+//! The job of a rule.
+
+ghost use Rattle.std.specs.Prelude.{◌≡◌, IfOk};
+ghost use Rattle.std.specs.Bool.{OnTrue};
+ghost use Rattle.mon_table.specs.Tables.{Has, IsTable};
+ghost use Rattle.mon_solve.specs.Accepting.{is_accepted, IsTrueOf};
+ghost use Rattle.mon_plan.specs.Planning.{watch_of, job_of, IsCertificate};
+
+use crate::view::copied;
+use mon_certificate::Certificate;
+use mon_job::Job;
+use mon_list::OutOfMemory;
+use mon_shows::{Target, View};
+use mon_solve::{accept, certificate};
+use mon_table::{Rule, Table};
+use std::alloc::Global;
+
+/// The job that watches a rule of the table, over the rules that overlap its match.
+fn job(alloc: Global, v: &View, t: &Table, rule: &Rule) -> Result<Job, OutOfMemory>
+    requires { Has t.now rule.now }
+    ensures { IfOk result (λ j. j ≡ job_of v.now t.now rule.now) }
+{
+    let view = copied(alloc, v)?;
+    let table = t.slice(alloc, &rule.matching)?;
+    let rule = rule.copied(alloc)?;
+    Ok(Job {
+        number: 0,
+        session: 0,
+        slot: 0,
+        edit: 0,
+        version: 0,
+        view,
+        table,
+        target: Target::Watch { rule },
+    })
+}
+
+/// The certificate of a rule of the table.
+pub(crate) fn certificate_of(
+    alloc: Global,
+    v: &View,
+    t: &Table,
+    rule: &Rule,
+) -> Result<Certificate, OutOfMemory>
+    requires table { IsTable t.now }
+    requires there { Has t.now rule.now }
+    ensures { IfOk result (IsCertificate v.now t.now rule.now) }
+{
+    let job = job(alloc, v, t, rule)?;
+    certificate(alloc, &job)
+}
+
+/// Whether the certificate of a rule of the table is accepted. Then it is true of the rule in the whole table.
+pub(crate) fn accepts(
+    alloc: Global,
+    v: &View,
+    t: &Table,
+    rule: &Rule,
+    c: &Certificate,
+) -> Result<bool, OutOfMemory>
+    requires table { IsTable t.now }
+    requires there { Has t.now rule.now }
+    ensures value { IfOk result (λ b. b ≡ is_accepted (job_of v.now t.now rule.now) c.now) }
+    ensures truth { IfOk result (λ b. OnTrue b (IsTrueOf (watch_of v.now t.now rule.now) c.now)) }
+{
+    let job = job(alloc, v, t, rule)?;
+    accept(alloc, &job, c)
+}

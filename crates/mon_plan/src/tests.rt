@@ -1,0 +1,191 @@
+//! Tables that were worked out by hand.
+
+ghost use Rattle.std.specs.Prelude.{◌≡◌, IfOk};
+
+use crate::{Certificate, Certificates, Checked, Summary, check_table, plan_table};
+use mon_header::{Action, Actions, Header, Match, OutOfMemory};
+use mon_list::Items;
+use mon_outcome::Emission;
+use mon_shows::{Near, View};
+use mon_table::{Rule, Table};
+use mon_topo::Vids;
+use std::alloc::Global;
+use std::test::Fail;
+
+/// A header of zeros that is IPv4 by its Ethernet type.
+const IPV4: Header = Header {
+    in_port: 0,
+    dl_src: 0,
+    dl_dst: 0,
+    dl_vlan: 0,
+    dl_vlan_pcp: 0,
+    dl_type: 0x0800,
+    nw_tos: 0,
+    nw_proto: 0,
+    nw_src: 0,
+    nw_dst: 0,
+    tp_src: 0,
+    tp_dst: 0,
+};
+
+/// A datagram to 10.0.0.1 that comes in at port 1 with the tag 100.
+const PROBE: Header = Header {
+    in_port: 1,
+    dl_src: 0x020000000001,
+    dl_dst: 0x020000000002,
+    dl_vlan: 100,
+    nw_proto: 17,
+    nw_dst: 0x0a000001,
+    ..IPV4
+};
+
+/// The switch 1 with the tag 100, between the switches 2 at its port 1 and 3 at its port 2. Both have the tag 101.
+fn view(alloc: Global) -> Result<View, OutOfMemory> {
+    let mut tags = Vids::new(alloc);
+    tags.push(100)?;
+    tags.push(101)?;
+    let mut links = Items::new(alloc);
+    links.push(Near {
+        port: 1,
+        switch: 2,
+        far_port: 1,
+        tag: 101,
+    })?;
+    links.push(Near {
+        port: 2,
+        switch: 3,
+        far_port: 1,
+        tag: 101,
+    })?;
+    Ok(View {
+        switch: 1,
+        tag: 100,
+        tags,
+        links,
+        miss: 128,
+    })
+}
+
+/// A rule for IPv4 packets from and to these addresses that sends them to port 2.
+fn rule(
+    alloc: Global,
+    wildcards: u32,
+    nw_src: u32,
+    nw_dst: u32,
+    priority: u16,
+) -> Result<Rule, OutOfMemory> {
+    let mut actions = Actions::new(alloc);
+    actions.push(Action::Output {
+        port: 2,
+        max_len: 0,
+    })?;
+    let header = Header {
+        nw_src,
+        nw_dst,
+        ..IPV4
+    };
+    Ok(Rule {
+        matching: Match::normal(wildcards, header),
+        priority,
+        actions,
+    })
+}
+
+/// To 10.0.0.0/24, at priority 100.
+fn narrow(alloc: Global) -> Result<Rule, OutOfMemory> {
+    rule(alloc, 0x003220ef, 0, 0x0a000000, 100)
+}
+
+/// That rule over one for all IPv4 at priority 50, with the same output.
+fn nested(alloc: Global) -> Result<Table, OutOfMemory> {
+    let mut table = Table::new(alloc);
+    let _ = table.put(rule(alloc, 0x003820ef, 0, 0, 50)?)?;
+    let _ = table.put(narrow(alloc)?)?;
+    Ok(table)
+}
+
+/// From 10.0.0.0/8 and to 10.0.0.0/8, both at priority 100.
+fn crossed(alloc: Global) -> Result<Table, OutOfMemory> {
+    let mut table = Table::new(alloc);
+    let _ = table.put(rule(alloc, 0x003818ef, 0x0a000000, 0, 100)?)?;
+    let _ = table.put(rule(alloc, 0x003620ef, 0, 0x0a000000, 100)?)?;
+    Ok(table)
+}
+
+/// So many certificates of ties.
+fn overlaps(alloc: Global, count: u32) -> Result<Certificates, OutOfMemory> {
+    let mut certificates = Items::new(alloc);
+    for _ in 0..count {
+        certificates.push(Certificate::Overlap)?;
+    }
+    Ok(certificates)
+}
+
+/// What is said of one probe that leaves by port 2 as it came, for the table of the narrow rule alone.
+fn of_probe(alloc: Global, header: Header) -> Result<Checked, OutOfMemory> {
+    let mut table = Table::new(alloc);
+    let _ = table.put(narrow(alloc)?)?;
+    let mut certificates = Items::new(alloc);
+    certificates.push(Certificate::Probe(header, Emission::Port(2, header)))?;
+    check_table(alloc, &view(alloc)?, &table, &certificates)
+}
+
+#[test]
+fn probes_are_refused_by_one_bit(rt: HostRuntime) -> Result<(), Fail> {
+    let alloc = rt.alloc();
+    assert!(rt; of_probe(alloc, PROBE)? == Checked::Accepted(1));
+    let elsewhere = Header {
+        nw_dst: 0x0a000101,
+        ..PROBE
+    };
+    assert!(rt; of_probe(alloc, elsewhere)? == Checked::Refused(0));
+    let untagged = Header {
+        dl_vlan: 101,
+        ..PROBE
+    };
+    assert!(rt; of_probe(alloc, untagged)? == Checked::Refused(0));
+    Ok(())
+}
+
+#[test]
+fn ties_are_accepted_where_they_are(rt: HostRuntime) -> Result<(), Fail> {
+    let alloc = rt.alloc();
+    let view = view(alloc)?;
+    let crossed = crossed(alloc)?;
+    let two = overlaps(alloc, 2)?;
+    assert!(rt; check_table(alloc, &view, &crossed, &two)? == Checked::Accepted(2));
+    assert!(rt; check_table(alloc, &view, &nested(alloc)?, &two)? == Checked::Refused(0));
+    assert!(rt; check_table(alloc, &view, &crossed, &overlaps(alloc, 1)?)? == Checked::Refused(1));
+    assert!(rt; check_table(alloc, &view, &crossed, &overlaps(alloc, 3)?)? == Checked::Refused(2));
+    let said = Summary {
+        rules: 2,
+        probes: 0,
+        indistinguishable: 0,
+        overlap: 2,
+    };
+    assert!(rt; Summary::of(&plan_table(alloc, &view, &crossed, 1)?) == said);
+    Ok(())
+}
+
+#[test]
+fn a_rule_over_another_of_its_output_is_indistinguishable(rt: HostRuntime) -> Result<(), Fail> {
+    let alloc = rt.alloc();
+    let view = view(alloc)?;
+    let table = nested(alloc)?;
+    let planned = plan_table(alloc, &view, &table, 1)?;
+    let said = Summary {
+        rules: 2,
+        probes: 1,
+        indistinguishable: 1,
+        overlap: 0,
+    };
+    assert!(rt; Summary::of(&planned) == said);
+    assert!(rt;
+        matches!(
+            planned.items(),
+            [Certificate::Nothing(_), Certificate::Probe(..)]
+        )
+    );
+    assert!(rt; check_table(alloc, &view, &table, &planned)? == Checked::Accepted(2));
+    Ok(())
+}
