@@ -1,0 +1,6 @@
+pub mod Fields
+pub mod LineReaders
+pub mod Rows
+pub mod Certifying
+pub mod Spelling
+pub mod Written

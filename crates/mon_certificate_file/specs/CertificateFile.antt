@@ -32,11 +32,18 @@ emission_text (Miss h) = codes "miss " ++ header_text h
 abbrev pub logs_text : List (List LogLine) → List ℕ
 logs_text logs = decimal (length logs) ++ (feed ++ flat_map log_text logs)
 
+-- a rule that no probe shows, behind the first word
+abbrev pub nothing_text : ℕ → List (List LogLine) → List ℕ
+nothing_text rule logs = decimal rule ++ (codes " " ++ logs_text logs)
+
+-- a probe, behind the first word
+abbrev pub probe_text : ℕ → Header × Emission → List ℕ
+probe_text rule x = decimal rule ++ (codes " " ++ (header_text x.0 ++ (codes " " ++ (emission_text x.1 ++ feed))))
+
 -- the lines of a rule, which is named by its number
 abbrev pub certificate_text : ℕ → Certificate → List ℕ
-certificate_text rule (Probe h e) =
-    codes "probe " ++ (decimal rule ++ (codes " " ++ (header_text h ++ (codes " " ++ (emission_text e ++ feed)))))
-certificate_text rule (Nothing logs) = codes "none " ++ (decimal rule ++ (codes " " ++ logs_text logs))
+certificate_text rule (Probe h e) = codes "probe " ++ probe_text rule (h, e)
+certificate_text rule (Nothing logs) = codes "none " ++ nothing_text rule logs
 certificate_text rule Overlap = codes "overlap " ++ (decimal rule ++ feed)
 
 -- texts one behind the other, each of which depends on its place

@@ -1,2 +1,3 @@
 pub mod CertificateFile
 pub mod Headers
+pub mod Reading

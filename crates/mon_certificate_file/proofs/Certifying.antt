@@ -1,0 +1,220 @@
+-- The lines of a rule, and the whole file, are read just as they are spelled.
+use Rattle.std.proofs.Common.{◌≡◌, ℕ, suc, ◌^◌, ◌<◌, true, refl, sym, ap, subst, ◌∙◌, List, [], ◌∷◌, ◌++◌, length, Option, Some, None, Err, arith, decimal, codes, append_assoc}
+use Rattle.std.specs.Prelude.{◌==◌}
+use Rattle.std.specs.List.{flat_map}
+use Rattle.std.proofs.lemmas.List.{append-nil}
+use Rattle.std.proofs.lemmas.Bool.{eqb-true}
+use Rattle.std.proofs.lemmas.Option.{none-some, some_pair_parts}
+use Rattle.mon_text.specs.Parts.{behind}
+use Rattle.mon_text.specs.declared.fault.FileFault.{FileFault}
+use Rattle.mon_text.specs.declared.fault.FileFault.TheVariants as fault
+use Rattle.mon_text.proofs.Joining.{behind-found, behind-again}
+use Rattle.mon_header.specs.declared.header.Header.{Header}
+use Rattle.mon_outcome.specs.declared.emission.Emission.{Emission}
+use Rattle.mon_refute.specs.declared.lines.LogLine.{LogLine}
+use Rattle.mon_refute.specs.Text.{log_text, FitsLog}
+use Rattle.mon_refute.specs.Reading.{LogAt}
+use Rattle.mon_certificate.specs.declared.certificate.Certificate.{Certificate}
+use Rattle.mon_certificate.specs.declared.certificate.Certificate.TheVariants.{Probe, Nothing, Overlap}
+use Rattle.mon_certificate_file.specs.CertificateFile.{feed, logs_text, probe_text, nothing_text, certificate_text, row, certificates_text, FitsLogs, FitsCertificate, Spells, Reads}
+use Rattle.mon_certificate_file.specs.Reading.{behind_rule, probe_in, overlap_in, count_in, head_in, PartAt, RowAt, ReadsPart}
+use Rattle.mon_certificate_file.proofs.LineReaders.{rule-found, rule-again, overlap-found, overlap-again, reader_probe, reader_count, head_words, reader_head}
+use Rattle.mon_certificate_file.proofs.Rows.{flat_is_row}
+
+-- a log is a part
+pub log_part : (bytes : List ℕ) (log : List LogLine) (rest : List ℕ) → LogAt bytes log rest → PartAt log_text FitsLog bytes log rest
+log_part bytes log rest a = record { is = a.is; fits = a.fits }
+
+pub part_log : (bytes : List ℕ) (log : List LogLine) (rest : List ℕ) → PartAt log_text FitsLog bytes log rest → LogAt bytes log rest
+part_log bytes log rest a = record { is = a.is; fits = a.fits }
+
+abbrev pub LogsAt : ℕ → List ℕ → List (List LogLine) → List ℕ → Type 0
+LogsAt count bytes logs rest = RowAt (λ _. log_text) FitsLog 0 count bytes logs rest
+
+-- a count and so many logs
+logs_is : (logs : List (List LogLine)) (rest : List ℕ) → (decimal (length logs) ++ feed) ++ (row (λ _. log_text) 0 logs ++ rest) ≡ logs_text logs ++ rest
+logs_is logs rest =
+    ap (λ t. (decimal (length logs) ++ feed) ++ (t ++ rest)) (sym (flat_is_row log_text 0 logs))
+    ∙ append_assoc (decimal (length logs)) feed (flat_map log_text logs ++ rest)
+    ∙ ap (λ t. decimal (length logs) ++ t) (sym (append_assoc feed (flat_map log_text logs) rest))
+    ∙ sym (append_assoc (decimal (length logs)) (feed ++ flat_map log_text logs) rest)
+
+pub logs_found : (bytes after : List ℕ) (count : ℕ) (logs : List (List LogLine)) (rest : List ℕ) → count_in bytes ≡ Some (count, after) → LogsAt count after logs rest → PartAt logs_text FitsLogs bytes logs rest
+logs_found bytes after count logs rest e a =
+    let f = reader_count.found bytes count after e in
+    record {
+      is = f.1 ∙ ap (λ n. (decimal n ++ feed) ++ after) (sym a.count_is) ∙ ap (λ t. (decimal (length logs) ++ feed) ++ t) a.is ∙ logs_is logs rest;
+      fits = (subst (λ n. n < 2 ^ 64) (sym a.count_is) f.0, a.fit);
+    }
+
+pub logs_count : (bytes : List ℕ) (logs : List (List LogLine)) (rest : List ℕ) → PartAt logs_text FitsLogs bytes logs rest → count_in bytes ≡ Some (length logs, row (λ _. log_text) 0 logs ++ rest)
+logs_count bytes logs rest p = ap count_in (p.is ∙ sym (logs_is logs rest)) ∙ reader_count.again (length logs) (row (λ _. log_text) 0 logs ++ rest) p.fits.0
+
+pub logs_row : (bytes after : List ℕ) (count : ℕ) (logs : List (List LogLine)) (rest : List ℕ) → count_in bytes ≡ Some (count, after) → PartAt logs_text FitsLogs bytes logs rest → LogsAt count after logs rest
+logs_row bytes after count logs rest e p =
+    let s = some_pair_parts count (length logs) after (row (λ _. log_text) 0 logs ++ rest) (sym e ∙ logs_count bytes logs rest p) in
+    record { is = s.1; count_is = sym s.0; fit = p.fits.1 }
+
+pub logs_none : (bytes : List ℕ) (logs : List (List LogLine)) (rest : List ℕ) → count_in bytes ≡ None → PartAt logs_text FitsLogs bytes logs rest → ⊥
+logs_none bytes logs rest e p = none-some (length logs, row (λ _. log_text) 0 logs ++ rest) (sym e ∙ logs_count bytes logs rest p)
+
+-- a rule that no probe shows
+nothing_is : (rule : ℕ) (logs : List (List LogLine)) (rest : List ℕ) → decimal rule ++ (codes " " ++ (logs_text logs ++ rest)) ≡ nothing_text rule logs ++ rest
+nothing_is rule logs rest = ap (λ t. decimal rule ++ t) (sym (append_assoc (codes " ") (logs_text logs) rest)) ∙ sym (append_assoc (decimal rule) (codes " " ++ logs_text logs) rest)
+
+pub nothing_found : (rule : ℕ) (bytes after : List ℕ) (logs : List (List LogLine)) (rest : List ℕ) → behind_rule rule bytes ≡ Some after → PartAt logs_text FitsLogs after logs rest → PartAt (nothing_text rule) FitsLogs bytes logs rest
+nothing_found rule bytes after logs rest e p = record {
+  is = rule-found rule bytes after e ∙ ap (λ t. decimal rule ++ (codes " " ++ t)) p.is ∙ nothing_is rule logs rest;
+  fits = p.fits;
+}
+
+pub nothing_rule : (rule : ℕ) (bytes : List ℕ) (logs : List (List LogLine)) (rest : List ℕ) → PartAt (nothing_text rule) FitsLogs bytes logs rest → behind_rule rule bytes ≡ Some (logs_text logs ++ rest)
+nothing_rule rule bytes logs rest p = ap (behind_rule rule) (p.is ∙ sym (nothing_is rule logs rest)) ∙ rule-again rule (logs_text logs ++ rest)
+
+some_is : (x y : List ℕ) → ◌≡◌ {A = Option (List ℕ)} (Some x) (Some y) → x ≡ y
+some_is x y e = cc
+
+pub nothing_part : (rule : ℕ) (bytes after : List ℕ) (logs : List (List LogLine)) (rest : List ℕ) → behind_rule rule bytes ≡ Some after → PartAt (nothing_text rule) FitsLogs bytes logs rest → PartAt logs_text FitsLogs after logs rest
+nothing_part rule bytes after logs rest e p = record { is = some_is after (logs_text logs ++ rest) (sym e ∙ nothing_rule rule bytes logs rest p); fits = p.fits }
+
+pub nothing_none : (rule : ℕ) (bytes : List ℕ) (logs : List (List LogLine)) (rest : List ℕ) → behind_rule rule bytes ≡ None → PartAt (nothing_text rule) FitsLogs bytes logs rest → ⊥
+nothing_none rule bytes logs rest e p = none-some (logs_text logs ++ rest) (sym e ∙ nothing_rule rule bytes logs rest p)
+
+abbrev pub CertificateAt : ℕ → List ℕ → Certificate → List ℕ → Type 0
+CertificateAt rule bytes c rest = PartAt (certificate_text rule) FitsCertificate bytes c rest
+
+-- what stands behind the first word
+worded : (word text after rest bytes behind_it : List ℕ) → bytes ≡ (word ++ text) ++ rest → behind word bytes ≡ Some behind_it → behind_it ≡ text ++ rest
+worded word text after rest bytes behind_it e f = some_is behind_it (text ++ rest) (sym f ∙ ap (behind word) (e ∙ append_assoc word text rest) ∙ behind-again word (text ++ rest))
+
+with_word : (word text bytes after rest : List ℕ) → behind word bytes ≡ Some after → after ≡ text ++ rest → bytes ≡ (word ++ text) ++ rest
+with_word word text bytes after rest e f = behind-found word bytes after e ∙ ap (λ t. word ++ t) f ∙ sym (append_assoc word text rest)
+
+-- the line of a probe
+pub probe_found : (rule : ℕ) (bytes after : List ℕ) (h : Header) (e : Emission) (rest : List ℕ) → behind (codes "probe ") bytes ≡ Some after → probe_in rule after ≡ Some ((h, e), rest) → CertificateAt rule bytes (Probe h e) rest
+probe_found rule bytes after h e rest b f =
+    let r = (reader_probe rule).found after (h, e) rest f in
+    record { is = with_word (codes "probe ") (probe_text rule (h, e)) bytes after rest b r.1; fits = r.0 }
+
+pub record IsProbe (rule : ℕ) (after : List ℕ) (c : Certificate) (rest : List ℕ) : Type 0 where
+  pub h : Header
+  pub e : Emission
+  pub is : Probe h e ≡ c
+  pub read : probe_in rule after ≡ Some ((h, e), rest)
+
+pub probe_only : (rule : ℕ) (bytes after : List ℕ) (c : Certificate) (rest : List ℕ) → behind (codes "probe ") bytes ≡ Some after → CertificateAt rule bytes c rest → IsProbe rule after c rest
+probe_only rule bytes after (Probe h e) rest b p = record {
+  h = h;
+  e = e;
+  is = refl;
+  read = ap (probe_in rule) (worded (codes "probe ") (probe_text rule (h, e)) after rest bytes after p.is b) ∙ (reader_probe rule).again (h, e) rest p.fits;
+}
+probe_only rule bytes after (Nothing logs) rest b p = absurd (none-some after (sym (ap (behind (codes "probe ")) p.is) ∙ b))
+probe_only rule bytes after Overlap rest b p = absurd (none-some after (sym (ap (behind (codes "probe ")) p.is) ∙ b))
+
+pub probe_same : (rule : ℕ) (bytes after : List ℕ) (h : Header) (e : Emission) (read : List ℕ) (c : Certificate) (rest : List ℕ) → behind (codes "probe ") bytes ≡ Some after → probe_in rule after ≡ Some ((h, e), read)
+    → CertificateAt rule bytes c rest → (Probe h e ≡ c) × (read ≡ rest)
+probe_same rule bytes after h e read c rest b f a =
+    let p = probe_only rule bytes after c rest b a in
+    let s = some_pair_parts (h, e) (p.h, p.e) read rest (sym f ∙ p.read) in
+    (ap (λ (x : Header × Emission). Probe x.0 x.1) s.0 ∙ p.is, s.1)
+
+pub probe_none : (rule : ℕ) (bytes after : List ℕ) (c : Certificate) (rest : List ℕ) → behind (codes "probe ") bytes ≡ Some after → probe_in rule after ≡ None → CertificateAt rule bytes c rest → ⊥
+probe_none rule bytes after c rest b f a = let p = probe_only rule bytes after c rest b a in none-some ((p.h, p.e), rest) (sym f ∙ p.read)
+
+-- the lines of refutations
+pub refuted_found : (rule : ℕ) (bytes after : List ℕ) (logs : List (List LogLine)) (rest : List ℕ) → behind (codes "none ") bytes ≡ Some after → PartAt (nothing_text rule) FitsLogs after logs rest → CertificateAt rule bytes (Nothing logs) rest
+refuted_found rule bytes after logs rest b p = record { is = with_word (codes "none ") (nothing_text rule logs) bytes after rest b p.is; fits = p.fits }
+
+pub record IsRefuted (rule : ℕ) (after : List ℕ) (c : Certificate) (rest : List ℕ) : Type 0 where
+  pub logs : List (List LogLine)
+  pub is : Nothing logs ≡ c
+  pub part : PartAt (nothing_text rule) FitsLogs after logs rest
+
+pub refuted_only : (rule : ℕ) (bytes after : List ℕ) (c : Certificate) (rest : List ℕ) → behind (codes "none ") bytes ≡ Some after → CertificateAt rule bytes c rest → IsRefuted rule after c rest
+refuted_only rule bytes after (Probe h e) rest b p = absurd (none-some after (sym (ap (behind (codes "none ")) p.is) ∙ b))
+refuted_only rule bytes after (Nothing logs) rest b p = record {
+  logs = logs;
+  is = refl;
+  part = record { is = worded (codes "none ") (nothing_text rule logs) after rest bytes after p.is b; fits = p.fits };
+}
+refuted_only rule bytes after Overlap rest b p = absurd (none-some after (sym (ap (behind (codes "none ")) p.is) ∙ b))
+
+pub refuted_same : (rule : ℕ) (bytes after : List ℕ) (logs : List (List LogLine)) (read : List ℕ) (c : Certificate) (rest : List ℕ) → behind (codes "none ") bytes ≡ Some after
+    → ((ls : List (List LogLine)) (r : List ℕ) → PartAt (nothing_text rule) FitsLogs after ls r → (logs ≡ ls) × (read ≡ r)) → CertificateAt rule bytes c rest → (Nothing logs ≡ c) × (read ≡ rest)
+refuted_same rule bytes after logs read c rest b once a =
+    let p = refuted_only rule bytes after c rest b a in
+    let s = once p.logs rest p.part in
+    (ap Nothing s.0 ∙ p.is, s.1)
+
+pub refuted_bad : (f : FileFault) (rule : ℕ) (bytes after : List ℕ) (c : Certificate) (rest : List ℕ) → behind (codes "none ") bytes ≡ Some after
+    → ((ls : List (List LogLine)) (r : List ℕ) → PartAt (nothing_text rule) FitsLogs after ls r → ReadsPart {X = List (List LogLine)} (Err f) ls r) → CertificateAt rule bytes c rest → ReadsPart {X = Certificate} (Err f) c rest
+refuted_bad fault.Bad rule bytes after c rest b none a = let p = refuted_only rule bytes after c rest b a in none p.logs rest p.part
+refuted_bad fault.OutOfMemory rule bytes after c rest b none a = tt
+
+-- the line of a tied rule
+pub overlap_found : (rule : ℕ) (bytes after rest : List ℕ) → behind (codes "overlap ") bytes ≡ Some after → overlap_in rule after ≡ Some rest → CertificateAt rule bytes Overlap rest
+overlap_found rule bytes after rest b f = record { is = with_word (codes "overlap ") (decimal rule ++ feed) bytes after rest b (overlap-found rule after rest f); fits = tt }
+
+pub record IsTied (rule : ℕ) (after : List ℕ) (c : Certificate) (rest : List ℕ) : Type 0 where
+  pub is : Overlap ≡ c
+  pub read : overlap_in rule after ≡ Some rest
+
+pub overlap_only : (rule : ℕ) (bytes after : List ℕ) (c : Certificate) (rest : List ℕ) → behind (codes "overlap ") bytes ≡ Some after → CertificateAt rule bytes c rest → IsTied rule after c rest
+overlap_only rule bytes after (Probe h e) rest b p = absurd (none-some after (sym (ap (behind (codes "overlap ")) p.is) ∙ b))
+overlap_only rule bytes after (Nothing logs) rest b p = absurd (none-some after (sym (ap (behind (codes "overlap ")) p.is) ∙ b))
+overlap_only rule bytes after Overlap rest b p = record {
+  is = refl;
+  read = ap (overlap_in rule) (worded (codes "overlap ") (decimal rule ++ feed) after rest bytes after p.is b) ∙ overlap-again rule rest;
+}
+
+pub overlap_same : (rule : ℕ) (bytes after read : List ℕ) (c : Certificate) (rest : List ℕ) → behind (codes "overlap ") bytes ≡ Some after → overlap_in rule after ≡ Some read → CertificateAt rule bytes c rest → (Overlap ≡ c) × (read ≡ rest)
+overlap_same rule bytes after read c rest b f a = let p = overlap_only rule bytes after c rest b a in (p.is, some_is read rest (sym f ∙ p.read))
+
+pub overlap_none : (rule : ℕ) (bytes after : List ℕ) (c : Certificate) (rest : List ℕ) → behind (codes "overlap ") bytes ≡ Some after → overlap_in rule after ≡ None → CertificateAt rule bytes c rest → ⊥
+overlap_none rule bytes after c rest b f a = let p = overlap_only rule bytes after c rest b a in none-some rest (sym f ∙ p.read)
+
+-- a line begins with one of the three words
+no_word : (word text rest bytes : List ℕ) → bytes ≡ (word ++ text) ++ rest → behind word bytes ≡ None → ⊥
+no_word word text rest bytes e f = none-some (text ++ rest) (sym f ∙ ap (behind word) (e ∙ append_assoc word text rest) ∙ behind-again word (text ++ rest))
+
+pub no_kind : (rule : ℕ) (bytes : List ℕ) (c : Certificate) (rest : List ℕ) → behind (codes "probe ") bytes ≡ None → behind (codes "none ") bytes ≡ None → behind (codes "overlap ") bytes ≡ None → CertificateAt rule bytes c rest → ⊥
+no_kind rule bytes (Probe h e) rest a b d p = no_word (codes "probe ") (probe_text rule (h, e)) rest bytes p.is a
+no_kind rule bytes (Nothing logs) rest a b d p = no_word (codes "none ") (nothing_text rule logs) rest bytes p.is b
+no_kind rule bytes Overlap rest a b d p = no_word (codes "overlap ") (decimal rule ++ feed) rest bytes p.is d
+
+-- the whole file
+file_is : (cs : List Certificate) → (head_words ++ (decimal (length cs) ++ feed)) ++ row certificate_text 0 cs ≡ certificates_text cs
+file_is cs = append_assoc head_words (decimal (length cs) ++ feed) (row certificate_text 0 cs) ∙ ap (λ t. head_words ++ t) (append_assoc (decimal (length cs)) feed (row certificate_text 0 cs))
+
+abbrev pub CertificatesAt : ℕ → List ℕ → List Certificate → List ℕ → Type 0
+CertificatesAt count bytes cs rest = RowAt certificate_text FitsCertificate 0 count bytes cs rest
+
+pub file_found : (text after : List ℕ) (count : ℕ) (cs : List Certificate) (rest : List ℕ) → head_in text ≡ Some (count, after) → CertificatesAt count after cs rest → rest ≡ [] → Spells text cs
+file_found text after count cs rest e a none =
+    let f = reader_head.found text count after e in
+    record {
+      is = f.1 ∙ ap (λ n. (head_words ++ (decimal n ++ feed)) ++ after) (sym a.count_is)
+          ∙ ap (λ t. (head_words ++ (decimal (length cs) ++ feed)) ++ t) (a.is ∙ ap (λ r. row certificate_text 0 cs ++ r) none ∙ append-nil (row certificate_text 0 cs))
+          ∙ file_is cs;
+      fit = (subst (λ n. n < 2 ^ 64) (sym a.count_is) f.0, a.fit);
+    }
+
+pub file_head : (text : List ℕ) (cs : List Certificate) → Spells text cs → head_in text ≡ Some (length cs, row certificate_text 0 cs)
+file_head text cs s = ap head_in (s.is ∙ sym (file_is cs)) ∙ reader_head.again (length cs) (row certificate_text 0 cs) s.fit.0
+
+pub file_row : (text after : List ℕ) (count : ℕ) (cs : List Certificate) → head_in text ≡ Some (count, after) → Spells text cs → CertificatesAt count after cs []
+file_row text after count cs e s =
+    let p = some_pair_parts count (length cs) after (row certificate_text 0 cs) (sym e ∙ file_head text cs s) in
+    record { is = p.1 ∙ sym (append-nil (row certificate_text 0 cs)); count_is = sym p.0; fit = s.fit.1 }
+
+pub file_none : (text : List ℕ) (cs : List Certificate) → head_in text ≡ None → Spells text cs → ⊥
+file_none text cs e s = none-some (length cs, row certificate_text 0 cs) (sym e ∙ file_head text cs s)
+
+pub bad_file : (f : FileFault) (cs : List Certificate) (rest : List ℕ) → ReadsPart {X = List Certificate} (Err f) cs rest → Reads (Err f) cs
+bad_file fault.Bad cs rest r = r
+bad_file fault.OutOfMemory cs rest r = tt
+
+pub none_left : (rest : List ℕ) → (length rest == 0) ≡ true → rest ≡ []
+none_left [] e = refl
+none_left (x ∷ rest) e = absurd (let k : suc (length rest) ≡ 0 = eqb-true (suc (length rest)) 0 e in omega arith)
