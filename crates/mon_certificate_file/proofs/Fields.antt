@@ -15,7 +15,7 @@ use Rattle.mon_header.specs.Places.{laid}
 use Rattle.mon_certificate_file.specs.Headers.{field_bytes, header_bytes, header_from}
 
 -- a byte of a number, by its place
-byte_at-pow : (k x : ℕ) → byte_at k x ≡ x / 256 ^ k % 256
+pub byte_at-pow : (k x : ℕ) → byte_at k x ≡ x / 256 ^ k % 256
 byte_at-pow zero x = ap (λ (y : ℕ). y % 256) (sym (div-one x))
 byte_at-pow (suc k) x = refl
 

@@ -1,3 +1,4 @@
+pub mod FieldBits
 pub mod Fields
 pub mod LineReaders
 pub mod Rows

@@ -3,7 +3,7 @@
 //! A certificate is worth nothing until it is checked, so such a file may come from anyone. `read_certificates` reads
 //! exactly the texts that `specs/CertificateFile.antt` spells out and refuses all others; `write_certificates` spells
 //! certificates, and a text is of one list of them only (`spelling_is_of_one`), so what is written is read back. Headers
-//! stand in their 264 bits (`specs/Headers.antt`).
+//! stand in their 264 bits (`specs/Headers.antt`, `bytes_have_the_bits`).
 //!
 //! A file is read in one pass, in time linear in its length, and without a copy of the text.
 #![tactic(auto)]
@@ -14,7 +14,7 @@ mod lines;
 mod reading;
 mod writing;
 
-pub use laws::spelling_is_of_one;
+pub use laws::{bytes_have_the_bits, spelling_is_of_one};
 pub use mon_certificate::{Certificate, Certificates};
 pub use mon_list::OutOfMemory;
 pub use mon_text::FileFault;
