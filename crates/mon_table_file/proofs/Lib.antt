@@ -1,0 +1,7 @@
+pub mod Apart
+pub mod Deciding
+pub mod LineReaders
+pub mod Making
+pub mod Sheeting
+pub mod SoFar
+pub mod Tagging

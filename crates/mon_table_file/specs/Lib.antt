@@ -1,0 +1,6 @@
+pub mod Filling
+pub mod Generator
+pub mod Lines
+pub mod Reading
+pub mod Sheets
+pub mod TableFile

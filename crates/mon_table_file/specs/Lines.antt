@@ -1,0 +1,76 @@
+-- The lines of a table file. Words are parted by one space, and a line feed ends each line.
+use Rattle.std.specs.Prelude.{◌≡◌, ℕ, ◌<◌, ◌≤◌, ◌^◌, is_ok, true, List, [], ◌∷◌, ◌++◌, length, codes, decimal, Result, Ok, Err}
+use Rattle.std.specs.List.{flat_map}
+use Rattle.std.specs.Int.{w64, to_be_bytes}
+use Rattle.mon_text.specs.Hex.{hex, AllBytes, AreBytes}
+use Rattle.mon_header.specs.declared.action.Action.{Action}
+use Rattle.mon_table.specs.declared.rule.Rule.{Rule}
+use Rattle.mon_shows.specs.declared.near.Near.{Near}
+use Rattle.of_match.specs.Layout.{match_of}
+use Rattle.of_action.specs.Reading.{actions_of}
+
+-- the end of a line
+abbrev pub feed : List ℕ
+feed = 10 ∷ []
+
+-- sixteen digits
+abbrev pub datapath_text : ℕ → List ℕ
+datapath_text datapath = hex (to_be_bytes w64 datapath)
+
+abbrev pub first_line : List ℕ
+first_line = codes "monocle-table 1" ++ feed
+
+-- the switch and its tag
+abbrev pub switch_line : ℕ → ℕ → List ℕ
+switch_line datapath tag = codes "switch " ++ (datapath_text datapath ++ (codes " " ++ (decimal tag ++ feed)))
+
+abbrev pub tag_text : ℕ → List ℕ
+tag_text tag = codes " " ++ decimal tag
+
+-- the tags in use
+abbrev pub tags_line : List ℕ → List ℕ
+tags_line tags = codes "tags" ++ (flat_map tag_text tags ++ feed)
+
+-- the miss length
+abbrev pub miss_line : ℕ → List ℕ
+miss_line miss = codes "miss " ++ (decimal miss ++ feed)
+
+-- a link: the port, and the datapath, the port and the tag at the other end
+abbrev pub link_line : Near → List ℕ
+link_line n =
+    codes "link "
+    ++ (decimal n.port ++ (codes " " ++ (datapath_text n.switch ++ (codes " " ++ (decimal n.far_port ++ (codes " " ++ (decimal n.tag ++ feed)))))))
+
+-- what the line of a rule says: its priority, the 40 bytes of its match, and the bytes of its actions
+pub record Row : Type 0 where
+  pub priority : ℕ
+  pub matching : List ℕ
+  pub actions : List ℕ
+
+-- the digits of actions, and a dash where there are none
+abbrev pub actions_text : List ℕ → List ℕ
+actions_text [] = codes "-"
+actions_text (byte ∷ bytes) = hex (byte ∷ bytes)
+
+abbrev pub rule_line : Row → List ℕ
+rule_line r =
+    codes "rule " ++ (decimal r.priority ++ (codes " " ++ (hex r.matching ++ (codes " " ++ (actions_text r.actions ++ feed)))))
+
+-- bytes of whole actions (OpenFlow 1.0.0, flow action structures), at most 512 of them
+pub record AreActions (bytes : List ℕ) : Type 0 where
+  pub bytes_are : AllBytes bytes
+  pub few : length bytes ≤ 512
+  pub whole : is_ok (actions_of bytes) ≡ true
+
+pub record FitsRow (r : Row) : Type 0 where
+  pub priority : r.priority < 2 ^ 16
+  pub matching : AreBytes 40 r.matching
+  pub actions : AreActions r.actions
+
+abbrev pub actions_given : Result (List Action) ℕ → List Action
+actions_given (Ok actions) = actions
+actions_given (Err place) = []
+
+-- the rule that a row says; its match is in the normalised form
+abbrev pub rule_given : Row → Rule
+rule_given r = record { matching = match_of r.matching; priority = r.priority; actions = actions_given (actions_of r.actions) }

@@ -1,0 +1,148 @@
+-- How the lines of a table file are read, part by part.
+use Rattle.std.specs.Prelude.{◌≡◌, ℕ, zero, suc, ◌≤◌, ◌<◌, ◌^◌, Bool, true, not, ◌==◌, nat_lt, nat_le, is_ok, ◌&&◌, if◌then◌else◌, List, [], ◌∷◌, ◌++◌, length, codes, Option, Some, None, option_and_then}
+use Rattle.std.specs.List.{flat_map, AllByRecursion}
+use Rattle.mon_text.specs.Parts.{Part, behind, led, ended, both, seen, passing, bytes_in, run_in, number_within, datapath_in}
+use Rattle.mon_header.specs.declared.action.Action.{Action}
+use Rattle.mon_header.specs.Matching.{Matching}
+use Rattle.mon_table.specs.declared.rule.Rule.{Rule}
+use Rattle.mon_shows.specs.declared.near.Near.{Near}
+use Rattle.mon_shows.specs.Views.{Viewing, is_in_use}
+use Rattle.of_match.specs.Layout.{match_of}
+use Rattle.of_action.specs.Reading.{actions_of}
+use Rattle.mon_table_file.specs.declared.sections.Head.{Head}
+use Rattle.mon_table_file.specs.Lines.{Row, feed, first_line, switch_line, tags_line, miss_line, actions_given, rule_given}
+
+-- a port of 1 to 65280 and a space
+abbrev pub port_in : List ℕ → Part ℕ
+port_in = ended (codes " ") (number_within 1 65280)
+
+abbrev pub datapath_word : List ℕ → Part ℕ
+datapath_word = ended (codes " ") datapath_in
+
+-- the last word of a line, a tag of 1 to 4094
+abbrev pub last_tag : List ℕ → Part ℕ
+last_tag = ended (feed) (number_within 1 4094)
+
+unfoldable pub switch_in : List ℕ → Part (ℕ × ℕ)
+switch_in = led (codes "switch ") (both datapath_word last_tag)
+
+unfoldable pub miss_in : List ℕ → Part ℕ
+miss_in = led (codes "miss ") (ended (feed) (number_within 0 65535))
+
+abbrev pub tag_before : ℕ → Part (List ℕ) → Part (List ℕ)
+tag_before tag None = None
+tag_before tag (Some p) = Some (tag ∷ p.0, p.1)
+
+-- the end of a line, or else what goes on
+abbrev pub end_or : {X : Type 0} → Option (List ℕ) → Part (List X) → Part (List X)
+end_or None more = more
+end_or (Some rest) more = Some ([], rest)
+
+-- fewer tags than this, and the end of the line
+unfoldable pub tags_in : ℕ → List ℕ → Part (List ℕ)
+tags_in zero text = None
+tags_in (suc n) text =
+    end_or (behind (feed) text) (option_and_then (λ p. tag_before p.0 (tags_in n p.1)) (led (codes " ") (number_within 1 4094) text))
+
+abbrev pub near_of : ℕ × (ℕ × (ℕ × ℕ)) → Near
+near_of x = record { port = x.0; switch = x.1.0; far_port = x.1.1.0; tag = x.1.1.1 }
+
+unfoldable pub link_in : List ℕ → Part Near
+link_in = seen near_of (led (codes "link ") (both port_in (both datapath_word (both port_in last_tag))))
+
+-- there are bytes, at most 512, and they are whole actions
+abbrev pub are_actions : List ℕ → Bool
+are_actions bytes = nat_lt 0 (length bytes) && (nat_le (length bytes) 512 && is_ok (actions_of bytes))
+
+abbrev pub run_of : List ℕ → Part (List ℕ)
+run_of text = Some (run_in text)
+
+-- a dash or digits, and the end of the line
+unfoldable pub actions_in : List ℕ → Part (List ℕ)
+actions_in text = end_or (behind (codes "-" ++ feed) text) (passing are_actions (ended (feed) run_of) text)
+
+-- the actions of bytes, none where these are no actions
+abbrev pub actions_from : List ℕ → Option (List Action)
+actions_from bytes = if are_actions bytes then Some (actions_given (actions_of bytes)) else None
+
+-- bytes as what they say, with the text behind them
+abbrev pub with_match : (ℕ × List ℕ) × List ℕ → (ℕ × Matching) × List ℕ
+with_match p = ((p.0.0, match_of p.0.1), p.1)
+
+abbrev pub with_actions : List ℕ × List ℕ → List Action × List ℕ
+with_actions p = (actions_given (actions_of p.0), p.1)
+
+abbrev pub with_rule : Row × List ℕ → Rule × List ℕ
+with_rule p = (rule_given p.0, p.1)
+
+-- the priority of a rule and the bytes of its match
+unfoldable pub front_in : List ℕ → Part (ℕ × List ℕ)
+front_in = led (codes "rule ") (both (ended (codes " ") (number_within 0 65535)) (ended (codes " ") (bytes_in 40)))
+
+abbrev pub row_of : (ℕ × List ℕ) × List ℕ → Row
+row_of x = record { priority = x.0.0; matching = x.0.1; actions = x.1 }
+
+unfoldable pub row_in : List ℕ → Part Row
+row_in = seen row_of (both front_in actions_in)
+
+-- all lines of one kind at the front, and the text behind them
+pub record AreRead {X : Type 0} (line : X → List ℕ) (Fits : X → Type 0) (part : List ℕ → Part X) (text : List ℕ) (lines : List X) (rest : List ℕ) : Type 0 where
+  pub is : text ≡ flat_map line lines ++ rest
+  pub fit : AllByRecursion Fits lines
+  pub ends : part rest ≡ None
+
+-- ranges of a link's numbers
+pub record FitsNear (n : Near) : Type 0 where
+  pub port : (1 ≤ n.port) × (n.port ≤ 65280)
+  pub switch : n.switch < 2 ^ 64
+  pub far_port : (1 ≤ n.far_port) × (n.far_port ≤ 65280)
+  pub tag : (1 ≤ n.tag) × (n.tag ≤ 4094)
+
+unfoldable pub tags_line_in : List ℕ → Part (List ℕ)
+tags_line_in = led (codes "tags") (tags_in 65)
+
+-- what the first four lines say
+pub record Heading : Type 0 where
+  pub switch : ℕ
+  pub tag : ℕ
+  pub tags : List ℕ
+  pub miss : ℕ
+
+-- the same of what the code makes
+abbrev pub heading : Head → Heading
+heading h = record { switch = h.switch; tag = h.tag; tags = h.tags.items; miss = h.miss }
+
+abbrev pub heading_of : ((ℕ × ℕ) × List ℕ) × ℕ → Heading
+heading_of x = record { switch = x.0.0.0; tag = x.0.0.1; tags = x.0.1; miss = x.1 }
+
+unfoldable pub head_in : List ℕ → Part Heading
+head_in = seen heading_of (led (codes "monocle-table 1" ++ feed) (both (both switch_in tags_line_in) miss_in))
+
+-- a tag that a switch may have
+abbrev pub IsTag : ℕ → Type 0
+IsTag n = (1 ≤ n) × (n ≤ 4094)
+
+abbrev pub FitsTags : List ℕ → Type 0
+FitsTags tags = (length tags ≤ 64) × AllByRecursion IsTag tags
+
+pub record FitsHeading (h : Heading) : Type 0 where
+  pub switch : h.switch < 2 ^ 64
+  pub tag : IsTag h.tag
+  pub tags : FitsTags h.tags
+  pub miss : h.miss < 2 ^ 16
+
+abbrev pub heading_text : Heading → List ℕ
+heading_text h = first_line ++ (switch_line h.switch h.tag ++ (tags_line h.tags ++ miss_line h.miss))
+
+-- the view of the first four lines and of links
+abbrev pub view_given : Heading → List Near → Viewing
+view_given h links = record { switch = h.switch; tag = h.tag; tags = h.tags; links = links; miss = h.miss }
+
+-- the link leads to a switch with another tag in use
+unfoldable pub has_other_tag : ℕ → List ℕ → Near → Bool
+has_other_tag tag tags n = not (n.tag == tag) && is_in_use n.tag tags
+
+-- each port is at least the one that may come next
+abbrev pub ports_rise : ℕ → List Near → Bool
+ports_rise least [] = true
+ports_rise least (n ∷ ns) = nat_le least n.port && ports_rise (suc n.port) ns
