@@ -1,9 +1,11 @@
 //! Measurements, as words ask; `bench/` has the scripts that give them. Without words it prints nothing.
 //!
 //! `table N` times a table of N rules, `separate N` separation over N rules (N of 0: the frames of probes), and
-//! `solver KIND SIZE [SEED]` the solver; `frames all` prints probe frames.
+//! `solver KIND SIZE [SEED]` the solver; `frames all` prints probe frames, and `cases N [SEED]` the size of the clauses of a
+//! generated table.
 #![tactic(auto)]
 
+mod cases;
 mod formulas;
 mod frames;
 mod separate;
@@ -34,6 +36,10 @@ fn main(rt: HostRuntime) -> anyhow::Result<()> {
             if size > 0 {
                 table::time(&rt, rt.alloc(), size)?;
             }
+        }
+        "cases" => {
+            let n = number(Some(kind)).min(4096) as u32;
+            cases::measure(&rt, n, number(rest.first()).min(65_535) as u32)?;
         }
         "frames" => frames::print(&rt, rt.alloc())?,
         "separate" => separate::time(&rt, rt.alloc(), number(Some(kind)).min(65_535) as u16)?,

@@ -1,6 +1,7 @@
 //! The job of a rule.
 
-ghost use Rattle.std.specs.Prelude.{◌≡◌, IfOk};
+ghost use Rattle.std.specs.Prelude.{◌≡◌, ◌<◌, length, slice_get, Some, IfOk};
+ghost use Rattle.mon_table.specs.declared.rule.Rule.{Rule};
 ghost use Rattle.std.specs.Bool.{OnTrue};
 ghost use Rattle.mon_table.specs.Tables.{Has, IsTable};
 ghost use Rattle.mon_solve.specs.Accepting.{is_accepted, IsTrueOf};
@@ -33,6 +34,15 @@ fn job(alloc: Global, v: &View, t: &Table, rule: &Rule) -> Result<Job, OutOfMemo
         table,
         target: Target::Watch { rule },
     })
+}
+
+/// The job of the rule at a place of the table, counted from 0: it watches the rule, over the rules that overlap its
+/// match.
+pub fn job_at(alloc: Global, v: &View, t: &Table, place: u32) -> Result<Job, OutOfMemory>
+    requires { place < length t.now }
+    ensures { IfOk result (λ j. (r : Rule) × (slice_get t.now place ≡ Some r) × (j ≡ job_of v.now t.now r)) }
+{
+    job(alloc, v, t, t.rule(place))
 }
 
 /// The certificate of a rule of the table.

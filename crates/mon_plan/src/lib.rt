@@ -7,6 +7,8 @@
 //! Each rule is asked about as one that is watched, over the slice of the table by its match. A slice asks the same as
 //! the whole table, and is mostly small, so a plan takes the time of as many small searches as there are rules, and the
 //! memory of the certificates and of one search. A job owns its view and its slice, which are copied for it.
+//!
+//! The files that tables and certificates come from and go to, and the generator of tables, are named here again.
 #![tactic(auto)]
 
 mod check;
@@ -19,7 +21,11 @@ mod tests;
 mod view;
 
 pub use check::{Checked, check_table};
+pub use job::job_at;
 pub use mon_certificate::{Certificate, Certificates};
+pub use mon_certificate_file::{read_certificates, write_certificates};
 pub use mon_list::OutOfMemory;
+pub use mon_table_file::{generate, read_table};
+pub use mon_text::FileFault;
 pub use plan::plan_table;
 pub use summary::Summary;
