@@ -1,4 +1,5 @@
 pub mod Following
 pub mod Planning
+pub mod Ranging
 pub mod Checking
 pub mod Counting

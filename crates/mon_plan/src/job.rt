@@ -1,9 +1,11 @@
 //! The job of a rule.
 
 ghost use Rattle.std.specs.Prelude.{◌≡◌, ◌<◌, length, slice_get, Some, IfOk};
-ghost use Rattle.mon_table.specs.declared.rule.Rule.{Rule};
 ghost use Rattle.std.specs.Bool.{OnTrue};
+ghost use Rattle.mon_header.specs.Actions.{AllFit};
+ghost use Rattle.mon_table.specs.declared.rule.Rule.{Rule};
 ghost use Rattle.mon_table.specs.Tables.{Has, IsTable};
+ghost use Rattle.mon_certificate_file.specs.CertificateFile.{IsCertificateInRange};
 ghost use Rattle.mon_solve.specs.Accepting.{is_accepted, IsTrueOf};
 ghost use Rattle.mon_plan.specs.Planning.{watch_of, job_of, IsCertificate};
 
@@ -45,6 +47,13 @@ pub fn job_at(alloc: Global, v: &View, t: &Table, place: u32) -> Result<Job, Out
     job(alloc, v, t, t.rule(place))
 }
 
+/// Looks at a rule, which changes nothing: only that shows that the numbers of its actions fit.
+fn look_at(rule: &Rule)
+    ensures { AllFit rule.now.actions }
+{
+    let _ = rule.actions.items();
+}
+
 /// The certificate of a rule of the table.
 pub(crate) fn certificate_of(
     alloc: Global,
@@ -54,8 +63,10 @@ pub(crate) fn certificate_of(
 ) -> Result<Certificate, OutOfMemory>
     requires table { IsTable t.now }
     requires there { Has t.now rule.now }
-    ensures { IfOk result (IsCertificate v.now t.now rule.now) }
+    ensures certificate { IfOk result (IsCertificate v.now t.now rule.now) }
+    ensures range { IfOk result IsCertificateInRange }
 {
+    look_at(rule);
     let job = job(alloc, v, t, rule)?;
     certificate(alloc, &job)
 }
