@@ -1,9 +1,10 @@
 -- The words that spell a command are those that are read as it.
-use Rattle.std.proofs.Common.{◌≡◌, ℕ, Bool, true, false, ◌&&◌, if◌then◌else◌, refl, sym, ap, ◌∙◌, subst, List, [], ◌∷◌, ◌++◌, Option, Some, None, Result, Ok, Err, IfOk, option_map, option_and_then, codes, zero, suc}
+use Rattle.std.proofs.Common.{◌≡◌, ℕ, Bool, true, false, if◌then◌else◌, refl, sym, ap, ◌∙◌, subst, List, [], ◌∷◌, ◌++◌, Option, Some, None, Result, Ok, Err, IfOk, option_map, option_and_then, codes, zero, suc}
 use Rattle.std.specs.Str.{bytes_eq}
 use Rattle.std.proofs.lemmas.Slice.Eq.{bytes_eq-Decides}
 use Rattle.mon_words.specs.declared.argument.Kind.TheVariants.{Workers, Generate, Seed}
 use Rattle.mon_words.specs.declared.argument.Argument.{Argument}
+use Rattle.mon_words.specs.declared.argument.Argument.TheVariants.{Name, Number, Certificates}
 use Rattle.mon_words.specs.declared.command.Source.{Source}
 use Rattle.mon_words.specs.declared.command.Command.{Command}
 use Rattle.mon_words.specs.declared.command.Command.TheVariants as command
@@ -12,9 +13,9 @@ use Rattle.mon_words.specs.declared.given.Given.TheVariants.{Never, Once, Often}
 use Rattle.mon_words.specs.declared.fault.WordsFault.{WordsFault}
 use Rattle.mon_words.specs.declared.fault.WordsFault.TheVariants.{Bad, OutOfMemory}
 use Rattle.mon_words.specs.declared.reading.State.TheVariants as state
-use Rattle.mon_words.specs.Words.{is_name, names_in, certificates_in, given_in, source_of, workers_of, asked_of, AsksPlan, AsksCheck, SpellsAll, Spells}
+use Rattle.mon_words.specs.Words.{names_in, certificates_in, given_in, source_of, workers_of, asked_of, AsksPlan, AsksCheck, SpellsAll, Spells}
 use Rattle.mon_words.specs.Reading.{Reads, arguments_of, last_of, plan_from, plan_of, check_from, check_of, replay_of, command_of}
-use Rattle.mon_words.proofs.Numbers.{by_cases, both, both_true}
+use Rattle.mon_words.proofs.Numbers.{by_cases}
 use Rattle.mon_words.proofs.Arguments.{all_read, all_spelled}
 
 -- the command that words spell is read
@@ -42,8 +43,8 @@ check_read source certificates arguments (names, n, s, w, c) =
     ∙ ap (λ o. check_from Never (Some false) o certificates) s
 
 pub command_read : (command : Command) (words : List (List ℕ)) → Spells command words → command_of words ≡ Some command
-command_read (command.Replay settings trace) words (e, s, t) =
-    ap command_of e ∙ ap (λ b. if b then Some (command.Replay settings trace) else None) (both_true _ _ s t)
+command_read (command.Replay settings trace) words (rest, e, all) =
+    ap command_of e ∙ ap (λ o. option_and_then replay_of o) (all_read (Name settings ∷ Name trace ∷ []) rest all)
 command_read (command.Plan source workers certificates) words (rest, arguments, e, all, asks) =
     ap command_of e ∙ ap (λ o. option_and_then plan_of o) (all_read arguments rest all) ∙ plan_read source workers certificates arguments asks
 command_read (command.Check source certificates) words (rest, arguments, e, all, asks) =
@@ -107,14 +108,16 @@ check_spelled words rest arguments c is all e = from_names (last_of (names_in ar
     from_names None q e = cc
     from_names (Some p) q e = from p _ _ _ (last_joins (names_in arguments) p q) refl refl refl e
 
-replay_spelled : (words rest : List (List ℕ)) (c : Command) → words ≡ codes "replay" ∷ rest → replay_of rest ≡ Some c → Spells c words
-replay_spelled words [] c is e = cc
-replay_spelled words (settings ∷ []) c is e = cc
-replay_spelled words (settings ∷ trace ∷ []) c is e = by_cases (is_name settings && is_name trace)
-    (λ t. let p = both _ _ t in
-    subst (λ c. Spells c words) (same_command _ _ (sym (ap (λ b. if b then Some (command.Replay settings trace) else None) t) ∙ e)) (is, p.0, p.1))
-    (λ f. let q : None ≡ Some c = sym (ap (λ b. if b then Some (command.Replay settings trace) else None) f) ∙ e in cc)
-replay_spelled words (settings ∷ trace ∷ more ∷ rest) c is e = cc
+replay_spelled : (words rest : List (List ℕ)) (arguments : List Argument) (c : Command) → words ≡ codes "replay" ∷ rest → SpellsAll arguments rest
+    → replay_of arguments ≡ Some c → Spells c words
+replay_spelled words rest [] c is all e = cc
+replay_spelled words rest (Number kind n ∷ more) c is all e = cc
+replay_spelled words rest (Certificates ∷ more) c is all e = cc
+replay_spelled words rest (Name settings ∷ []) c is all e = cc
+replay_spelled words rest (Name settings ∷ Number kind n ∷ more) c is all e = cc
+replay_spelled words rest (Name settings ∷ Certificates ∷ more) c is all e = cc
+replay_spelled words rest (Name settings ∷ Name trace ∷ []) c is all e = subst (λ c. Spells c words) (same_command _ _ e) (rest, is, all)
+replay_spelled words rest (Name settings ∷ Name trace ∷ third ∷ more) c is all e = cc
 
 -- a command that is read from names and options
 read_from : (rest : List (List ℕ)) (c : Command) (of : List Argument → Option Command)
@@ -138,7 +141,8 @@ kept b x y e = ap (λ c. if c then x else y) e
 pub command_spelled : (words : List (List ℕ)) (c : Command) → command_of words ≡ Some c → Spells c words
 command_spelled [] c e = cc
 command_spelled (word ∷ rest) c e = by_cases (bytes_eq word (codes "replay"))
-    (λ t. replay_spelled (word ∷ rest) rest c (first_word word rest _ t) (sym (chosen _ _ _ t) ∙ e))
+    (λ t. let r = read_from rest c replay_of (sym (chosen _ _ _ t) ∙ e) in
+    replay_spelled (word ∷ rest) rest r.0 c (first_word word rest _ t) r.1 r.2)
     (λ f. by_cases (bytes_eq word (codes "plan"))
     (λ t. let r = read_from rest c plan_of (sym (kept _ _ _ f ∙ chosen _ _ _ t) ∙ e) in
     plan_spelled (word ∷ rest) rest r.0 c (first_word word rest _ t) r.1 r.2)

@@ -139,16 +139,14 @@ check_of arguments =
     (source_of p.0 (given_in Generate arguments) (given_in Seed arguments)) p.1)
     (last_of (names_in arguments))
 
-abbrev pub replay_of : List (List ℕ) → Option Command
-replay_of [] = None
-replay_of (settings ∷ []) = None
-replay_of (settings ∷ trace ∷ []) = if is_name settings && is_name trace then Some (command.Replay settings trace) else None
-replay_of (settings ∷ trace ∷ more ∷ words) = None
+abbrev pub replay_of : List Argument → Option Command
+replay_of (Name settings ∷ Name trace ∷ []) = Some (command.Replay settings trace)
+replay_of _ = None
 
 -- the command of words
 abbrev pub command_of : List (List ℕ) → Option Command
 command_of [] = None
 command_of (word ∷ words) =
-    if bytes_eq word (codes "replay") then replay_of words else
+    if bytes_eq word (codes "replay") then option_and_then replay_of (arguments_of state.Arguments words) else
     (if bytes_eq word (codes "plan") then option_and_then plan_of (arguments_of state.Arguments words) else
     (if bytes_eq word (codes "check") then option_and_then check_of (arguments_of state.Arguments words) else None))

@@ -113,7 +113,7 @@ AsksCheck source certificates arguments =
 -- the words spell the command
 abbrev pub Spells : Command → List (List ℕ) → Type 0
 Spells (command.Replay settings trace) words =
-    (words ≡ codes "replay" ∷ settings ∷ trace ∷ []) × (is_name settings ≡ true) × (is_name trace ≡ true)
+    (rest : List (List ℕ)) × (words ≡ codes "replay" ∷ rest) × SpellsAll (Name settings ∷ Name trace ∷ []) rest
 Spells (command.Plan source workers certificates) words =
     (rest : List (List ℕ)) × (arguments : List Argument)
     × (words ≡ codes "plan" ∷ rest) × SpellsAll arguments rest × AsksPlan source workers certificates arguments

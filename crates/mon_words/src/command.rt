@@ -8,7 +8,7 @@ ghost use Rattle.mon_words.specs.Reading.{Reads, plan_of, check_of, replay_of, c
 use crate::argument::{Argument, Kind};
 use crate::fault::WordsFault;
 use crate::given::{Given, asks_certificates, given_in, names_in, source_of, workers_of};
-use crate::reading::{arguments_of, is_name};
+use crate::reading::arguments_of;
 use mon_world::Text;
 use std::alloc::Global;
 
@@ -42,15 +42,12 @@ pub enum Command {
     },
 }
 
-/// The command of the words after `replay`.
-fn replay_of(alloc: Global, words: &[Text]) -> Result<Command, WordsFault>
-    ensures { Reads (λ command. command) result (replay_of words.now) }
+/// The replay that names and options ask for: two names alone.
+fn replay_of(alloc: Global, arguments: &[Argument]) -> Result<Command, WordsFault>
+    ensures { Reads (λ command. command) result (replay_of arguments.now) }
 {
-    match words {
-        [settings, trace] => {
-            if !is_name(settings.as_str()) || !is_name(trace.as_str()) {
-                return Err(WordsFault::Bad);
-            }
+    match arguments {
+        [Argument::Name(settings), Argument::Name(trace)] => {
             let settings = Text::new(alloc, settings.as_str())?;
             let trace = Text::new(alloc, trace.as_str())?;
             Ok(Command::Replay { settings, trace })
@@ -106,7 +103,7 @@ fn command_of(alloc: Global, words: &[Text]) -> Result<Command, WordsFault>
     match words {
         [] => Err(WordsFault::Bad),
         [word, rest @ ..] => match word.as_str() {
-            "replay" => replay_of(alloc, rest),
+            "replay" => replay_of(alloc, &arguments_of(alloc, rest)?),
             "plan" => plan_of(alloc, arguments_of(alloc, rest)?),
             "check" => check_of(alloc, arguments_of(alloc, rest)?),
             _ => Err(WordsFault::Bad),

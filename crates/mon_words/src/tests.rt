@@ -58,6 +58,7 @@ fn reads_each_command(rt: HostRuntime) -> Result<(), Fail> {
     let table = [
         ("replay s t", "replay t over s"),
         ("replay - -", "replay - over -"),
+        ("replay -- -s -t", "replay -t over -s"),
         ("plan t", "plan of t by 1, certificates false"),
         ("plan -", "plan of - by 1, certificates false"),
         ("plan -- -t", "plan of -t by 1, certificates false"),
@@ -101,6 +102,7 @@ fn refuses_each_other_form(rt: HostRuntime) -> Result<(), Fail> {
         "replay s -t",
         "replay -- s",
         "replay s t --workers=1",
+        "replay s --certificates t",
         "plan",
         "plan t u",
         "plan -t",
