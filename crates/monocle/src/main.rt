@@ -1,20 +1,27 @@
 //! `monocle`, a monitor of data-plane rules: the program.
 //!
 //! `replay SETTINGS TRACE` runs the session of a trace and writes what was put, and then the entries that the controller
-//! should have on the switch. `main` makes the desk over files and the standard streams, and calls `monocle`, whose
-//! contract is what is promised of a run.
+//! should have on the switch. `plan TABLE` says for each rule of a table which packet shows it, or that none does, and
+//! `check TABLE CERTIFICATES` checks such a plan. `main` makes the desk over files and the standard streams, and calls
+//! `monocle`, whose contract is what is promised of a run.
 #![tactic(auto)]
 
+mod check;
 #[cfg(test)]
 mod mod_tests;
+mod plan;
+#[cfg(test)]
+mod planning_tests;
 mod replay;
+mod saying;
+mod source;
 mod standard;
 mod tables;
 #[cfg(test)]
 mod tests;
 mod words;
 
-use crate::replay::refused;
+use crate::saying::refused;
 use crate::standard::StdDesk;
 use crate::words::monocle;
 use mon_world::{OutOfMemory, Text};

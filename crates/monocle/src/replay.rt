@@ -1,44 +1,19 @@
 //! `replay`: the run of a trace.
 
-ghost use Rattle.std.specs.Prelude.{◌≡◌, ◌≢◌, ◌∷◌, List, ℕ, Some, None, IfSome};
+ghost use Rattle.std.specs.Prelude.{◌≡◌, ◌≢◌, ◌∷◌, List, IfSome};
 ghost use Rattle.mon_world.specs.Causes.{Rose};
-ghost use Rattle.mon_world.specs.Files.{with_more, AllOrNothing};
 ghost use Rattle.mon_world.specs.declared.history.Entry.{Entry};
-ghost use Rattle.mon_trace.specs.Grammar.{Traced, trace_of};
-ghost use Rattle.monocle.specs.Replay.{IsAnswer, IsRunOf, answer_of};
-ghost use Rattle.monocle.specs.Words.{IsSaid, unread};
+ghost use Rattle.mon_words.specs.declared.command.Command.{Command};
+ghost use Rattle.monocle.specs.Replay.{IsRunOf, answer_of};
+ghost use Rattle.monocle.specs.Running.{Replays};
+ghost use Rattle.monocle.specs.Saying.{Says, IsTextOf};
 
+use crate::saying::{content_of, put, refused};
 use crate::tables::push_tables;
 use mon_core::{Core, LoopEnd, legal_passes_frames, run_loop};
 use mon_trace::{Trace, TraceFault, TraceHub, read_trace};
-use mon_world::{Desk, DeskFault};
+use mon_world::Desk;
 use std::alloc::Global;
-
-/// Says a text, and gives back the status that it is said at.
-pub(crate) fn refused<D: Desk>(alloc: Global, desk: &mut D, status: u8, text: &[u8]) -> u8
-    ensures status { result ≡ status }
-    ensures said { AllOrNothing text.now (D.said desk.old) (D.said desk.new) }
-    ensures files { D.files desk.new ≡ D.files desk.old }
-    ensures written { D.written desk.new ≡ D.written desk.old }
-    ensures reads { D.read_faults desk.new ≡ D.read_faults desk.old }
-    ensures writes { D.write_faults desk.new ≡ D.write_faults desk.old }
-{
-    desk.say(alloc, text);
-    status
-}
-
-/// Says which file can't be read, or nothing for want of memory.
-fn unread<D: Desk>(alloc: Global, desk: &mut D, name: &str) -> u8
-    ensures status { result ≡ 3 }
-    ensures said { AllOrNothing (unread name.now) (D.said desk.old) (D.said desk.new) }
-    ensures written { D.written desk.new ≡ D.written desk.old }
-    ensures reads { D.read_faults desk.new ≡ D.read_faults desk.old }
-{
-    match format!(in alloc; "monocle: cannot read {name}\n") {
-        Ok(text) => refused(alloc, desk, 3, text.as_bytes()),
-        Err(_) => 3,
-    }
-}
 
 /// The text of the history of a trace and the tables at its end, or None for want of memory.
 fn answer(alloc: Global, trace: Trace) -> Option<Vec<u8>>
@@ -66,30 +41,21 @@ fn answer(alloc: Global, trace: Trace) -> Option<Vec<u8>>
 pub fn replay<D: Desk>(alloc: Global, settings: &str, trace: &str, desk: &mut D) -> u8
     // What is written at status 0 is the text of a legal history of the trace's events, and behind it the expected
     // entries of each session that has not ended.
-    ensures written { result ≡ 0 → IfSome (D.files desk.old) (λ files. (said : List ℕ) × (bytes : List ℕ)
-        × (files trace.now ≡ Some said) × IsAnswer said bytes × (D.written desk.new ≡ with_more bytes (D.written desk.old))) }
+    ensures run { Replays (D.files desk.old) trace.now result (D.written desk.old) (D.written desk.new) }
     // Nothing is written at another status, but for a part where writing failed.
     ensures unwritten { result ≢ 0 → result ≢ 6 → D.written desk.new ≡ D.written desk.old }
     ensures read { result ≡ 3 → Rose (D.read_faults desk.old) (D.read_faults desk.new) }
-    ensures bad { result ≡ 5 → IfSome (D.files desk.old) (λ files. (said : List ℕ) × (files trace.now ≡ Some said) × (trace_of said ≡ None)) }
     ensures write { result ≡ 6 → Rose (D.write_faults desk.old) (D.write_faults desk.new) }
-    ensures judged { result ≡ 6 → IfSome (D.files desk.old) (λ files. (said : List ℕ) × (traced : Traced) × (files trace.now ≡ Some said) × (trace_of said ≡ Some traced)) }
-    ensures said { IsSaid result settings.now trace.now (D.said desk.old) (D.said desk.new) }
+    ensures said { Says (IsTextOf (Command.Replay settings.now trace.now)) result (D.said desk.old) (D.said desk.new) }
     ensures words { result ≢ 2 }
 {
-    match desk.read(alloc, settings) {
+    match content_of(alloc, settings, desk) {
         Ok(_) => {}
-        Err(DeskFault::Failed) => return unread(alloc, desk, settings),
-        Err(DeskFault::OutOfMemory) => {
-            return refused(alloc, desk, 7, b"monocle: out of memory\n");
-        }
+        Err(status) => return status,
     }
-    let said = match desk.read(alloc, trace) {
+    let said = match content_of(alloc, trace, desk) {
         Ok(said) => said,
-        Err(DeskFault::Failed) => return unread(alloc, desk, trace),
-        Err(DeskFault::OutOfMemory) => {
-            return refused(alloc, desk, 7, b"monocle: out of memory\n");
-        }
+        Err(status) => return status,
     };
     let read = read_trace(alloc, &said);
     drop(said);
@@ -100,12 +66,8 @@ pub fn replay<D: Desk>(alloc: Global, settings: &str, trace: &str, desk: &mut D)
             return refused(alloc, desk, 7, b"monocle: out of memory\n");
         }
     };
-    let Some(bytes) = answer(alloc, traced) else {
-        return refused(alloc, desk, 7, b"monocle: out of memory\n");
-    };
-    match desk.write(alloc, &bytes) {
-        Ok(()) => 0,
-        Err(DeskFault::Failed) => refused(alloc, desk, 6, b"monocle: cannot write\n"),
-        Err(DeskFault::OutOfMemory) => refused(alloc, desk, 7, b"monocle: out of memory\n"),
+    match answer(alloc, traced) {
+        Some(bytes) => put(alloc, &bytes, 0, desk),
+        None => refused(alloc, desk, 7, b"monocle: out of memory\n"),
     }
 }

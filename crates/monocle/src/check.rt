@@ -1,0 +1,82 @@
+//! `check`: whether certificates of a table are accepted.
+
+ghost use Rattle.std.specs.Prelude.{◌≡◌, ◌≢◌, ◌<◌, List, Err, IfOk, string_bytes};
+ghost use Rattle.mon_certificate.specs.declared.certificate.Certificate.{Certificate};
+ghost use Rattle.mon_certificate_file.specs.CertificateFile.{Spells};
+ghost use Rattle.mon_world.specs.Causes.{Rose};
+ghost use Rattle.mon_words.specs.declared.command.Command.{Command};
+ghost use Rattle.monocle.specs.Planning.{checked_text, status_of};
+ghost use Rattle.monocle.specs.Running.{Checks};
+ghost use Rattle.monocle.specs.Saying.{Says, IsTextOf};
+
+use crate::saying::{content_of, put, refused};
+use crate::source::table_of;
+use mon_plan::{Certificates, Checked, FileFault, check_table, read_certificates};
+use mon_words::Source;
+use mon_world::{Desk, OutOfMemory};
+use std::alloc::Global;
+
+/// What is written of certificates that were checked.
+fn checked_text(alloc: Global, checked: Checked) -> Result<String, OutOfMemory>
+    ensures { IfOk result (λ text. string_bytes text ≡ checked_text checked) }
+{
+    let text = match checked {
+        Checked::Accepted(n) => format!(in alloc; "accepted {n}\n")?,
+        Checked::Refused(n) => format!(in alloc; "refused {n}\n")?,
+    };
+    Ok(text)
+}
+
+/// The status of certificates that were checked.
+fn status_of(checked: Checked) -> u8
+    ensures value { result ≡ status_of checked }
+    ensures low { result < 2 }
+{
+    match checked {
+        Checked::Accepted(_) => 0,
+        Checked::Refused(_) => 1,
+    }
+}
+
+/// The certificates of a certificate file.
+fn certificates_in(alloc: Global, text: &[u8]) -> Result<Certificates, FileFault>
+    ensures found { IfOk result (Spells text.now) }
+    ensures bad { result ≡ Err FileFault.Bad → (cs : List Certificate) → Spells text.now cs → ⊥ }
+{
+    read_certificates(alloc, text)
+}
+
+/// Checks the certificates of a file against the table of a source, without a search, and writes whether there is an
+/// accepted one for each rule. It answers 0 where there is, 1 where there isn't, 3 where a file can't be read, 5 where
+/// one isn't in its form, 6 where writing fails, and 7 for want of memory.
+pub fn check<D: Desk>(alloc: Global, source: &Source, certificates: &str, desk: &mut D) -> u8
+    ensures run { Checks (D.files desk.old) source.now certificates.now result (D.written desk.old) (D.written desk.new) }
+    ensures unwritten { result ≢ 0 → result ≢ 1 → result ≢ 6 → D.written desk.new ≡ D.written desk.old }
+    ensures read { result ≡ 3 → Rose (D.read_faults desk.old) (D.read_faults desk.new) }
+    ensures write { result ≡ 6 → Rose (D.write_faults desk.old) (D.write_faults desk.new) }
+    ensures said { Says (IsTextOf (Command.Check source.now certificates.now)) result (D.said desk.old) (D.said desk.new) }
+    ensures words { result ≢ 2 }
+{
+    let (view, table) = match table_of(alloc, source, desk) {
+        Ok(found) => found,
+        Err(status) => return status,
+    };
+    let text = match content_of(alloc, certificates, desk) {
+        Ok(text) => text,
+        Err(status) => return status,
+    };
+    let read = match certificates_in(alloc, &text) {
+        Ok(read) => read,
+        Err(FileFault::Bad) => return refused(alloc, desk, 5, b"monocle: certificates\n"),
+        Err(FileFault::OutOfMemory) => {
+            return refused(alloc, desk, 7, b"monocle: out of memory\n");
+        }
+    };
+    let Ok(checked) = check_table(alloc, &view, &table, &read) else {
+        return refused(alloc, desk, 7, b"monocle: out of memory\n");
+    };
+    match checked_text(alloc, checked) {
+        Ok(text) => put(alloc, text.as_bytes(), status_of(checked), desk),
+        Err(_) => refused(alloc, desk, 7, b"monocle: out of memory\n"),
+    }
+}

@@ -1,0 +1,61 @@
+//! Where `plan` and `check` take their table from.
+
+ghost use Rattle.std.specs.Prelude.{◌≡◌, ◌≤◌, List, Err, IfSome, IfOk, OnOk, IsErrOf};
+ghost use Rattle.std.specs.Result.{IfErr};
+ghost use Rattle.mon_world.specs.Causes.{Rose};
+ghost use Rattle.mon_table.specs.declared.rule.Rule.{Rule};
+ghost use Rattle.mon_shows.specs.Views.{Viewing};
+ghost use Rattle.mon_table_file.specs.TableFile.{IsTableFile};
+ghost use Rattle.monocle.specs.Planning.{Gives, GivesNone};
+ghost use Rattle.monocle.specs.Saying.{Says, IsSourceText};
+
+use crate::saying::{content_of, refused};
+use mon_plan::{FileFault, generate, read_table};
+use mon_shows::View;
+use mon_table::Table;
+use mon_words::Source;
+use mon_world::Desk;
+use std::alloc::Global;
+
+/// The view and the table of a table file.
+fn table_in(alloc: Global, text: &[u8]) -> Result<(View, Table), FileFault>
+    ensures found { IfOk result (λ x. IsTableFile text.now x.0 x.1) }
+    ensures bad { result ≡ Err FileFault.Bad → (v : Viewing) (t : List Rule) → IsTableFile text.now v t → ⊥ }
+{
+    read_table(alloc, text)
+}
+
+/// The view and the table of a source. Where there is none, says why, and gives the status: 3 where the file can't be
+/// read, 5 where it is no table, 7 for want of memory.
+pub(crate) fn table_of<D: Desk>(
+    alloc: Global,
+    source: &Source,
+    desk: &mut D,
+) -> Result<(View, Table), u8>
+    ensures gives { IfOk result (λ x. IfSome (D.files desk.old) (λ files. Gives files source.now x.0 x.1)) }
+    ensures silent { OnOk result (D.said desk.new ≡ D.said desk.old) }
+    ensures said { IfErr result (λ status. Says (IsSourceText source.now) status (D.said desk.old) (D.said desk.new)) }
+    ensures read { IsErrOf result 3 → Rose (D.read_faults desk.old) (D.read_faults desk.new) }
+    ensures bad { IsErrOf result 5 → IfSome (D.files desk.old) (λ files. GivesNone files source.now) }
+    ensures files { D.files desk.new ≡ D.files desk.old }
+    ensures written { D.written desk.new ≡ D.written desk.old }
+    ensures reads { D.read_faults desk.old ≤ D.read_faults desk.new }
+    ensures writes { D.write_faults desk.new ≡ D.write_faults desk.old }
+{
+    match source {
+        Source::File(name) => {
+            let text = content_of(alloc, name.as_str(), desk)?;
+            match table_in(alloc, &text) {
+                Ok(found) => Ok(found),
+                Err(FileFault::Bad) => Err(refused(alloc, desk, 5, b"monocle: table\n")),
+                Err(FileFault::OutOfMemory) => {
+                    Err(refused(alloc, desk, 7, b"monocle: out of memory\n"))
+                }
+            }
+        }
+        Source::Generate { n, seed } => match generate(alloc, *n, *seed) {
+            Ok(found) => Ok(found),
+            Err(_) => Err(refused(alloc, desk, 7, b"monocle: out of memory\n")),
+        },
+    }
+}
