@@ -13,6 +13,8 @@ mod plan;
 #[cfg(test)]
 mod planning_tests;
 mod replay;
+#[cfg(test)]
+mod runs;
 mod saying;
 mod source;
 mod standard;

@@ -1,8 +1,6 @@
 //! FLOW_MODs through a replay, with the bytes written by hand.
 
-use crate::tests::{REPLAY, desk_with, words_of};
-use crate::words::monocle;
-use mon_world::Places;
+use crate::tests::replays;
 use std::alloc::Global;
 use std::test::Fail;
 
@@ -59,30 +57,11 @@ fn lines_of(alloc: Global, lines: &[(&str, &str, &str)]) -> Result<String, Fail>
     Ok(text)
 }
 
-/// What a replay of a trace writes, or None where it does not end with status 0.
-fn replayed(alloc: Global, trace: &[u8]) -> Result<Option<Vec<u8>>, Fail> {
-    let mut desk = desk_with(alloc, trace, Places::new(alloc), Places::new(alloc))?;
-    let words = words_of(alloc, REPLAY)?;
-    if monocle(alloc, &words, &mut desk) != 0 {
-        return Ok(None);
-    }
-    let written = Vec::from_slice(alloc, desk.written())?;
-    Ok(Some(written))
-}
-
-/// Whether a replay of a trace ends with status 0 and writes this text.
-fn gives(alloc: Global, trace: &[u8], text: &[u8]) -> Result<bool, Fail> {
-    match replayed(alloc, trace)? {
-        Some(written) => Ok(written.as_slice() == text),
-        None => Ok(false),
-    }
-}
-
 /// Whether a replay of pieces of the controller writes these lines.
 fn writes(alloc: Global, pieces: &[&str], lines: &[(&str, &str, &str)]) -> Result<bool, Fail> {
     let trace = trace_of(alloc, pieces)?;
     let text = lines_of(alloc, lines)?;
-    gives(alloc, trace.as_bytes(), text.as_bytes())
+    replays(alloc, trace.as_str(), 0, text.as_str(), "")
 }
 
 #[test]

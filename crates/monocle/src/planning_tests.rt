@@ -1,8 +1,7 @@
 //! Plans and checks over a desk in memory.
 
-use crate::tests::words_of;
-use crate::words::monocle;
-use mon_world::{FileBytes, MemoryDesk, NamedFile, NamedFiles, Places, Text};
+use crate::runs::{ends, fails_reading, fails_writing, files_of, writes};
+use mon_world::NamedFiles;
 use std::alloc::Global;
 use std::test::Fail;
 
@@ -28,32 +27,17 @@ const TO_8: &str =
 /// What is said of two tied rules.
 const TIES: &str = "monocle-certificates 1\nrules 2\noverlap 0\noverlap 1\n";
 
-/// A desk with a table and certificates.
-fn desk_of(
-    alloc: Global,
-    table: &[&str],
-    certificates: &[u8],
-    reads: Places,
-    writes: Places,
-) -> Result<MemoryDesk, Fail> {
+/// A text of several lines.
+fn joined(alloc: Global, lines: &[&str]) -> Result<String, Fail> {
     let mut text = String::new(alloc);
-    for lines in table {
-        text.push_str(lines)?;
+    for line in lines {
+        text.push_str(line)?;
     }
-    let mut files = NamedFiles::new(alloc);
-    files.push(NamedFile {
-        name: Text::new(alloc, "one.table")?,
-        content: FileBytes::of(text.into_bytes()),
-    })?;
-    files.push(NamedFile {
-        name: Text::new(alloc, "one.certificates")?,
-        content: FileBytes::of(Vec::from_slice(alloc, certificates)?),
-    })?;
-    Ok(MemoryDesk::new(alloc, files, reads, writes))
+    Ok(text)
 }
 
-/// Whether a run over such a desk ends with this status, and writes and says this alone.
-fn ends(
+/// Whether a run over a table and certificates ends with this status, and writes and says this alone.
+fn over(
     alloc: Global,
     words: &str,
     table: &[&str],
@@ -62,39 +46,46 @@ fn ends(
     written: &str,
     said: &str,
 ) -> Result<bool, Fail> {
-    let none = Places::new(alloc);
-    let mut desk = desk_of(
+    let table = joined(alloc, table)?;
+    let files = files_of(
         alloc,
-        table,
-        certificates.as_bytes(),
-        none,
-        Places::new(alloc),
+        "one.table",
+        table.as_str(),
+        "one.certificates",
+        certificates,
     )?;
-    let words = words_of(alloc, words)?;
-    if monocle(alloc, &words, &mut desk) != status {
-        return Ok(false);
-    }
-    Ok(desk.written() == written.as_bytes() && desk.said() == said.as_bytes())
+    ends(alloc, words, files, status, written, said)
 }
+
+const CHECK: &str = "check one.table one.certificates";
 
 #[test]
 fn a_table_has_a_summary(rt: HostRuntime) -> Result<(), Fail> {
     let alloc = rt.alloc();
-    let generated = "rules 4\nprobes 2\nindistinguishable 2\noverlap 0\n";
+    let written = "rules 4\nprobes 2\nindistinguishable 2\noverlap 0\n";
     assert!(rt;
         ends(
             alloc,
             "plan --generate 4 --seed 7",
-            &[],
-            "",
+            NamedFiles::new(alloc),
             0,
-            generated,
+            written,
             ""
         )?
     );
-    let read = "rules 2\nprobes 1\nindistinguishable 1\noverlap 0\n";
+    let written = "rules 2\nprobes 1\nindistinguishable 1\noverlap 0\n";
     let table = [SWITCH, TO_24, IPV4];
-    assert!(rt; ends(alloc, "plan one.table --workers=8", &table, "", 0, read, "")?);
+    assert!(rt;
+        over(
+            alloc,
+            "plan one.table --workers=8",
+            &table,
+            "",
+            0,
+            written,
+            ""
+        )?
+    );
     Ok(())
 }
 
@@ -103,7 +94,7 @@ fn certificates_are_checked(rt: HostRuntime) -> Result<(), Fail> {
     let alloc = rt.alloc();
     let ties = [SWITCH, FROM_8, TO_8];
     assert!(rt;
-        ends(
+        over(
             alloc,
             "plan one.table --certificates",
             &ties,
@@ -113,10 +104,9 @@ fn certificates_are_checked(rt: HostRuntime) -> Result<(), Fail> {
             ""
         )?
     );
-    let words = "check one.table one.certificates";
-    assert!(rt; ends(alloc, words, &ties, TIES, 0, "accepted 2\n", "")?);
+    assert!(rt; over(alloc, CHECK, &ties, TIES, 0, "accepted 2\n", "")?);
     let table = [SWITCH, TO_24, IPV4];
-    assert!(rt; ends(alloc, words, &table, TIES, 1, "refused 0\n", "")?);
+    assert!(rt; over(alloc, CHECK, &table, TIES, 1, "refused 0\n", "")?);
     Ok(())
 }
 
@@ -130,60 +120,34 @@ const TURNED: &str =
 #[test]
 fn a_turned_bit_is_refused(rt: HostRuntime) -> Result<(), Fail> {
     let alloc = rt.alloc();
-    let words = "check one.table one.certificates";
     let table = [SWITCH, TO_24];
-    assert!(rt; ends(alloc, words, &table, PROBE, 0, "accepted 1\n", "")?);
-    assert!(rt; ends(alloc, words, &table, TURNED, 1, "refused 0\n", "")?);
+    assert!(rt; over(alloc, CHECK, &table, PROBE, 0, "accepted 1\n", "")?);
+    assert!(rt; over(alloc, CHECK, &table, TURNED, 1, "refused 0\n", "")?);
     Ok(())
 }
 
-/// What a plan of a generated table writes, or None where it does not end with status 0.
-fn planned(alloc: Global, words: &str) -> Result<Option<Vec<u8>>, Fail> {
-    let none = Places::new(alloc);
-    let mut desk = desk_of(alloc, &[], b"", none, Places::new(alloc))?;
-    let words = words_of(alloc, words)?;
-    if monocle(alloc, &words, &mut desk) != 0 {
-        return Ok(None);
-    }
-    Ok(Some(Vec::from_slice(alloc, desk.written())?))
-}
-
-/// Whether certificates of a generated table are all accepted, so many.
-fn are_accepted(alloc: Global, certificates: &[u8], said: &str) -> Result<bool, Fail> {
-    let none = Places::new(alloc);
-    let mut desk = desk_of(alloc, &[], certificates, none, Places::new(alloc))?;
-    let words = words_of(alloc, "check --generate 20 --seed=7 one.certificates")?;
-    if monocle(alloc, &words, &mut desk) != 0 {
-        return Ok(false);
-    }
-    Ok(desk.written() == said.as_bytes())
+/// Whether a check of a generated table accepts as many certificates as it says.
+fn are_accepted(alloc: Global, certificates: &str, said: &str) -> Result<bool, Fail> {
+    let files = files_of(alloc, "one.table", "", "one.certificates", certificates)?;
+    let words = "check --generate 20 --seed=7 one.certificates";
+    ends(alloc, words, files, 0, said, "")
 }
 
 #[test]
 fn a_plan_is_accepted(rt: HostRuntime) -> Result<(), Fail> {
     let alloc = rt.alloc();
-    let Some(plan) = planned(alloc, "plan --certificates --generate=20 --seed 7")? else {
+    let Some(plan) = writes(alloc, "plan --certificates --generate=20 --seed 7")? else {
         return Err(Fail::new("no plan"));
     };
-    assert!(rt; are_accepted(alloc, &plan, "accepted 19\n")?);
+    assert!(rt; are_accepted(alloc, plan.as_str(), "accepted 19\n")?);
     Ok(())
 }
 
 /// Whether lines are no table for `plan` and for `check`.
 fn is_no_table(alloc: Global, table: &[&str]) -> Result<bool, Fail> {
     let said = "monocle: table\n";
-    if !ends(alloc, "plan one.table", table, TIES, 5, "", said)? {
-        return Ok(false);
-    }
-    ends(
-        alloc,
-        "check one.table one.certificates",
-        table,
-        TIES,
-        5,
-        "",
-        said,
-    )
+    let planned = over(alloc, "plan one.table", table, TIES, 5, "", said)?;
+    Ok(planned && over(alloc, CHECK, table, TIES, 5, "", said)?)
 }
 
 #[test]
@@ -200,66 +164,28 @@ fn tables_out_of_form_are_refused(rt: HostRuntime) -> Result<(), Fail> {
 
 #[test]
 fn certificates_out_of_form_are_refused(rt: HostRuntime) -> Result<(), Fail> {
-    let words = "check one.table one.certificates";
+    let table = [SWITCH, TO_24];
     let short = "monocle-certificates 1\nrules 1\n";
     let said = "monocle: certificates\n";
-    assert!(rt; ends(rt.alloc(), words, &[SWITCH, TO_24], short, 5, "", said)?);
+    assert!(rt; over(rt.alloc(), CHECK, &table, short, 5, "", said)?);
     Ok(())
 }
 
-/// Whether a check ends with 3 and says this where the read of this number fails.
-fn fails_reading(alloc: Global, place: u64, said: &str) -> Result<bool, Fail> {
-    let mut failing = Places::new(alloc);
-    failing.push(place)?;
-    let table = [SWITCH, FROM_8, TO_8];
-    let mut desk = desk_of(alloc, &table, TIES.as_bytes(), failing, Places::new(alloc))?;
-    let words = words_of(alloc, "check one.table one.certificates")?;
-    if monocle(alloc, &words, &mut desk) != 3 {
-        return Ok(false);
-    }
-    Ok(desk.said() == said.as_bytes() && desk.written() == b"")
-}
-
-/// Whether these words end with 6 and say so where the write fails.
-fn fails_writing(alloc: Global, words: &str) -> Result<bool, Fail> {
-    let mut failing = Places::new(alloc);
-    failing.push(0)?;
-    let table = [SWITCH, FROM_8, TO_8];
-    let mut desk = desk_of(alloc, &table, TIES.as_bytes(), Places::new(alloc), failing)?;
-    let words = words_of(alloc, words)?;
-    if monocle(alloc, &words, &mut desk) != 6 {
-        return Ok(false);
-    }
-    Ok(desk.said() == b"monocle: cannot write\n")
+/// A table of two tied rules, and what is said of them.
+fn ties(alloc: Global) -> Result<NamedFiles, Fail> {
+    let table = joined(alloc, &[SWITCH, FROM_8, TO_8])?;
+    files_of(alloc, "one.table", table.as_str(), "one.certificates", TIES)
 }
 
 #[test]
 fn plans_and_checks_say_what_fails(rt: HostRuntime) -> Result<(), Fail> {
     let alloc = rt.alloc();
-    assert!(rt; fails_reading(alloc, 0, "monocle: cannot read one.table\n")?);
-    assert!(rt; fails_reading(alloc, 1, "monocle: cannot read one.certificates\n")?);
-    assert!(rt; fails_writing(alloc, "check one.table one.certificates")?);
-    assert!(rt; fails_writing(alloc, "plan one.table")?);
-    assert!(rt; fails_writing(alloc, "plan one.table --certificates")?);
-    Ok(())
-}
-
-#[test]
-fn words_that_ask_for_nothing_are_refused(rt: HostRuntime) -> Result<(), Fail> {
-    let alloc = rt.alloc();
-    let said = "monocle: bad words\n";
-    assert!(rt; ends(alloc, "plan", &[SWITCH], TIES, 2, "", said)?);
-    assert!(rt; ends(alloc, "check one.table", &[SWITCH], TIES, 2, "", said)?);
-    assert!(rt;
-        ends(
-            alloc,
-            "plan one.table --workers 65",
-            &[SWITCH],
-            TIES,
-            2,
-            "",
-            said
-        )?
-    );
+    let first = "monocle: cannot read one.table\n";
+    assert!(rt; fails_reading(alloc, CHECK, ties(alloc)?, 0, first)?);
+    let second = "monocle: cannot read one.certificates\n";
+    assert!(rt; fails_reading(alloc, CHECK, ties(alloc)?, 1, second)?);
+    assert!(rt; fails_writing(alloc, CHECK, ties(alloc)?)?);
+    assert!(rt; fails_writing(alloc, "plan one.table", ties(alloc)?)?);
+    assert!(rt; fails_writing(alloc, "plan one.table --certificates", ties(alloc)?)?);
     Ok(())
 }

@@ -8,10 +8,10 @@ returns-in-Ok-checked_text-clause-run g c =
     check-runs (g.D.Desk.files c.args.desk.now) c.args.source.now c.args.certificates.now _ c.put.result c.as_bytes.result.now
     (g.D.Desk.written c.args.desk.now) (g.D.Desk.written c.put.new.desk)
     (is-check (g.D.Desk.files c.args.desk.now) c.args.source.now c.args.certificates.now _ _ _ _ _ _ _ c.as_bytes.result.now
-        c.in-Ok.ensures.gives
-        (subst (λ told. IfSome told (λ files. files c.args.certificates.now ≡ Some c.in-Ok-content_of.text.items)) c.in-Ok.ensures.files c.in-Ok-content_of.ensures.content)
-        c.deref.ensures.value c.in-Ok-certificates_in.ensures.found c.in-Ok-check_table.ensures.exact c.status_of.ensures.value
-        (c.as_bytes.ensures.value ∙ c.in-Ok-checked_text.ensures))
+    c.in-Ok.ensures.gives
+    (subst (λ told. IfSome told (λ files. files c.args.certificates.now ≡ Some c.in-Ok-content_of.text.items)) c.in-Ok.ensures.files c.in-Ok-content_of.ensures.content)
+    c.deref.ensures.value c.in-Ok-certificates_in.ensures.found c.in-Ok-check_table.ensures.exact c.status_of.ensures.value
+    (c.as_bytes.ensures.value ∙ c.in-Ok-checked_text.ensures))
     c.put.ensures.done
     (λ low. c.put.ensures.written low ∙ ap (with_more c.as_bytes.result.now) (c.in-Ok-content_of.ensures.written ∙ c.in-Ok.ensures.written))
     c.put.ensures.outcomes
