@@ -1,11 +1,10 @@
 -- What a file that is no table says of its source, and what a check of both files does.
-use Rattle.std.proofs.Common.{◌≡◌, ◌≢◌, ◌<◌, ℕ, List, Option, Some, None, IfSome, subst, ◌∙◌, sym, ap}
+use Rattle.std.proofs.Common.{◌≡◌, ◌≢◌, ◌<◌, ℕ, List, Option, Some, None, IfSome, subst, sym}
 use Rattle.mon_table.specs.declared.rule.Rule.{Rule}
 use Rattle.mon_shows.specs.Views.{Viewing}
 use Rattle.mon_certificate.specs.declared.certificate.Certificate.{Certificate}
 use Rattle.mon_certificate_file.specs.CertificateFile.{Spells}
 use Rattle.mon_table_file.specs.TableFile.{IsTableFile}
-use Rattle.mon_plan.specs.declared.check.Checked.{Checked}
 use Rattle.mon_plan.specs.Checking.{checked}
 use Rattle.mon_words.specs.declared.command.Source.{Source}
 use Rattle.mon_words.specs.declared.command.Source.TheVariants.{File}
@@ -20,13 +19,13 @@ no-table (Some files) name text read content same none =
     (text, content, subst (λ bytes. (v : Viewing) (t : List Rule) → IsTableFile bytes v t → ⊥) same none)
 
 -- what is checked is checked, whether or not it can be written
-pub is-check : (told : Option Contents) (source : Source) (name text read : List ℕ) (v : Viewing) (t : List Rule) (cs : List Certificate) (said : Checked) (due : ℕ) (bytes : List ℕ)
+pub is-check : (told : Option Contents) (source : Source) (name text read : List ℕ) (v : Viewing) (t : List Rule) (cs : List Certificate) (due : ℕ) (bytes : List ℕ)
     → IfSome told (λ files. Gives files source v t) → IfSome told (λ files. files name ≡ Some text) → read ≡ text → Spells read cs
-    → said ≡ checked v t cs → due ≡ status_of said → bytes ≡ checked_text said
+    → due ≡ status_of (checked v t cs) → bytes ≡ checked_text (checked v t cs)
     → IfSome told (λ files. IsCheck files source name due bytes)
-is-check None source name text read v t cs said due bytes gives content same spells exact d b = gives
-is-check (Some files) source name text read v t cs said due bytes gives content same spells exact d b =
-    (v, t, text, cs, gives, content, subst (λ bs. Spells bs cs) same spells, d ∙ ap status_of exact, b ∙ ap checked_text exact)
+is-check None source name text read v t cs due bytes gives content same spells d b = gives
+is-check (Some files) source name text read v t cs due bytes gives content same spells d b =
+    (v, t, text, cs, gives, content, subst (λ bs. Spells bs cs) same spells, d, b)
 
 pub check-runs : (told : Option Contents) (source : Source) (name : List ℕ) (due status : ℕ) (bytes : List ℕ) (before now : Option (List ℕ))
     → IfSome told (λ files. IsCheck files source name due bytes)

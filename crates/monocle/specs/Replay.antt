@@ -1,5 +1,5 @@
 -- What `replay` writes.
-use Rattle.std.specs.Prelude.{◌≡◌, ℕ, List, [], ◌∷◌, ◌++◌, Option, Some, None, reverse}
+use Rattle.std.specs.Prelude.{◌≡◌, ℕ, List, [], ◌∷◌, ◌++◌, Some, reverse}
 use Rattle.mon_world.specs.declared.event.Event.{Event}
 use Rattle.mon_world.specs.declared.event.Event.TheVariants.{Stop}
 use Rattle.mon_world.specs.declared.history.Entry.{Entry}

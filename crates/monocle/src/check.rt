@@ -3,6 +3,7 @@
 ghost use Rattle.std.specs.Prelude.{◌≡◌, ◌≢◌, ◌<◌, List, Err, IfOk, string_bytes};
 ghost use Rattle.mon_certificate.specs.declared.certificate.Certificate.{Certificate};
 ghost use Rattle.mon_certificate_file.specs.CertificateFile.{Spells};
+ghost use Rattle.mon_plan.specs.Checking.{checked};
 ghost use Rattle.mon_world.specs.Causes.{Rose};
 ghost use Rattle.mon_words.specs.declared.command.Command.{Command};
 ghost use Rattle.monocle.specs.Planning.{checked_text, status_of};
@@ -12,6 +13,8 @@ ghost use Rattle.monocle.specs.Saying.{Says, IsTextOf};
 use crate::saying::{content_of, put, refused};
 use crate::source::table_of;
 use mon_plan::{Certificates, Checked, FileFault, check_table, read_certificates};
+use mon_shows::View;
+use mon_table::Table;
 use mon_words::Source;
 use mon_world::{Desk, OutOfMemory};
 use std::alloc::Global;
@@ -36,6 +39,16 @@ fn status_of(checked: Checked) -> u8
         Checked::Accepted(_) => 0,
         Checked::Refused(_) => 1,
     }
+}
+
+/// What is written of certificates of a table, and the status at which it is written.
+fn judged(alloc: Global, v: &View, t: &Table, c: &Certificates) -> Result<(String, u8), OutOfMemory>
+    ensures text { IfOk result (λ x. string_bytes x.0 ≡ checked_text (checked v.now t.now c.now)) }
+    ensures status { IfOk result (λ x. x.1 ≡ status_of (checked v.now t.now c.now)) }
+    ensures low { IfOk result (λ x. x.1 < 2) }
+{
+    let checked = check_table(alloc, v, t, c)?;
+    Ok((checked_text(alloc, checked)?, status_of(checked)))
 }
 
 /// The certificates of a certificate file.
@@ -72,11 +85,8 @@ pub fn check<D: Desk>(alloc: Global, source: &Source, certificates: &str, desk: 
             return refused(alloc, desk, 7, b"monocle: out of memory\n");
         }
     };
-    let Ok(checked) = check_table(alloc, &view, &table, &read) else {
-        return refused(alloc, desk, 7, b"monocle: out of memory\n");
-    };
-    match checked_text(alloc, checked) {
-        Ok(text) => put(alloc, text.as_bytes(), status_of(checked), desk),
+    match judged(alloc, &view, &table, &read) {
+        Ok((text, status)) => put(alloc, text.as_bytes(), status, desk),
         Err(_) => refused(alloc, desk, 7, b"monocle: out of memory\n"),
     }
 }

@@ -3,15 +3,14 @@ use Rattle.mon_world.specs.Files.{with_more}
 use Rattle.monocle.proofs.Judging.{is-check, check-runs}
 use Rattle.monocle.proofs.check.check.Goals as goal
 
-pub returns-in-Ok-checked_text-clause-run : goal.returns-in-Ok-checked_text-clause-run
-returns-in-Ok-checked_text-clause-run g c =
-    check-runs (g.D.Desk.files c.args.desk.now) c.args.source.now c.args.certificates.now _ c.put.result c.as_bytes.result.now
+pub returns-in-Ok-judged-clause-run : goal.returns-in-Ok-judged-clause-run
+returns-in-Ok-judged-clause-run g c =
+    check-runs (g.D.Desk.files c.args.desk.now) c.args.source.now c.args.certificates.now c.in-Ok-judged.status c.put.result c.as_bytes.result.now
     (g.D.Desk.written c.args.desk.now) (g.D.Desk.written c.put.new.desk)
-    (is-check (g.D.Desk.files c.args.desk.now) c.args.source.now c.args.certificates.now _ _ _ _ _ _ _ c.as_bytes.result.now
+    (is-check (g.D.Desk.files c.args.desk.now) c.args.source.now c.args.certificates.now _ _ _ _ _ c.in-Ok-judged.status c.as_bytes.result.now
     c.in-Ok.ensures.gives
     (subst (λ told. IfSome told (λ files. files c.args.certificates.now ≡ Some c.in-Ok-content_of.text.items)) c.in-Ok.ensures.files c.in-Ok-content_of.ensures.content)
-    c.deref.ensures.value c.in-Ok-certificates_in.ensures.found c.in-Ok-check_table.ensures.exact c.status_of.ensures.value
-    (c.as_bytes.ensures.value ∙ c.in-Ok-checked_text.ensures))
+    c.deref.ensures.value c.in-Ok-certificates_in.ensures.found c.in-Ok-judged.ensures.status (c.as_bytes.ensures.value ∙ c.in-Ok-judged.ensures.text))
     c.put.ensures.done
     (λ low. c.put.ensures.written low ∙ ap (with_more c.as_bytes.result.now) (c.in-Ok-content_of.ensures.written ∙ c.in-Ok.ensures.written))
     c.put.ensures.outcomes
