@@ -1,40 +1,21 @@
 //! Headers in digits.
 
-ghost use Rattle.std.specs.Prelude.{◌≡◌, ◌≤◌, ◌+◌, ◌++◌, drop, OnOk, option_map};
-ghost use Rattle.byteorder.specs.Endian.{big_number, big_bytes};
+ghost use Rattle.std.specs.Prelude.{◌≡◌, ◌≤◌, ◌+◌, ◌++◌, OnOk, option_map};
+ghost use Rattle.byteorder.specs.Endian.{big_bytes};
+ghost use Rattle.mon_fields.specs.Fields.{number_at};
 ghost use Rattle.mon_certificate_file.specs.Headers.{header_bytes, header_from};
 ghost use Rattle.mon_certificate_file.specs.CertificateFile.{header_text};
 ghost use Rattle.mon_certificate_file.specs.Reading.{header_in};
 
 use byteorder::{BigEndian, ByteOrder};
+use mon_fields::{u16_at, u32_at, u48_at};
 use mon_header::Header;
 use mon_text::{push_digits, read_digits};
 use std::alloc::AllocError;
 
-fn u16_at(bytes: &[u8; 33], at: usize) -> u16
-    requires { at + 2 ≤ 33 }
-    ensures { result ≡ big_number 2 (drop at bytes.now) }
-{
-    BigEndian::read_u16(&bytes[at..])
-}
-
-fn u32_at(bytes: &[u8; 33], at: usize) -> u32
-    requires { at + 4 ≤ 33 }
-    ensures { result ≡ big_number 4 (drop at bytes.now) }
-{
-    BigEndian::read_u32(&bytes[at..])
-}
-
-fn u48_at(bytes: &[u8; 33], at: usize) -> u64
-    requires { at + 6 ≤ 33 }
-    ensures { result ≡ big_number 6 (drop at bytes.now) }
-{
-    BigEndian::read_u48(&bytes[at..])
-}
-
 fn u8_at(bytes: &[u8; 33], at: usize) -> u8
     requires { at + 1 ≤ 33 }
-    ensures { result ≡ big_number 1 (drop at bytes.now) }
+    ensures { result ≡ number_at 1 at bytes.now }
 {
     bytes[at]
 }

@@ -1,15 +1,14 @@
 -- What fits: the fields of headers in a class, and the parts of packets of IPv4.
-use Rattle.std.proofs.Common.{◌≡◌, ◌≢◌, ℕ, ◌%◌, ◌<◌, ◌≤◌, true, List, length, arith}
+use Rattle.std.proofs.Common.{◌≡◌, ◌≢◌, ℕ, ◌<◌, ◌≤◌, true, List, length, arith}
 use Rattle.std.specs.Prelude.{◌==◌, nat_le, slice_index}
 use Rattle.std.proofs.lemmas.Bool.{leb-true, ltb-true}
 use Rattle.std.proofs.lemmas.Bool.Decides.{nat_tests}
 use Rattle.mon_header.specs.declared.class.Class.{Class}
 use Rattle.mon_header.specs.declared.header.Header.{Header}
-use Rattle.mon_header.specs.Matching.{InRange}
-use Rattle.mon_header.specs.Classes.{fits, has_tag_fields, has_form, is_in_class, in_class}
+use Rattle.mon_header.specs.Classes.{has_tag_fields, in_class}
 use Rattle.mon_header.proofs.Twelve.{first, second}
 use Rattle.mon_header.proofs.Parting.{IsOf, parts}
-use Rattle.mon_header.proofs.Classing.{some-class, class-range}
+use Rattle.mon_header.proofs.Classing.{some-class}
 use Rattle.mon_packet.specs.Reading.{total_of, is_ipv4}
 
 pub class-parts : (h : Header) → in_class h ≡ true → (c : Class) × IsOf c h

@@ -10,19 +10,20 @@ use Rattle.mon_header.specs.Matching.{InRange}
 use Rattle.mon_header.proofs.Twelve.{both}
 use Rattle.mon_packet.specs.declared.ethernet.Ethernet.{Ethernet}
 use Rattle.mon_packet.specs.Frames.{ethernet_header, ethernet_size}
-use Rattle.mon_packet.specs.Reading.{pair_at, is_type, typed, ethernet_of}
+use Rattle.mon_fields.specs.Fields.{number_at}
+use Rattle.mon_packet.specs.Reading.{is_type, typed, ethernet_of}
 use Rattle.mon_packet.proofs.Choosing.{if-true, if-false, and-false}
 
 type-no-tag : (t : ℕ) → is_type t ≡ true → (t == 0x8100) ≡ false
 type-no-tag t e = grind (arith, nat_tests)
 
-typed-read : (bytes : List ℕ) (vlan pcp end s d t : ℕ) → end ≤ length bytes → pair_at (end - 2) bytes ≡ t → is_type t ≡ true
+typed-read : (bytes : List ℕ) (vlan pcp end s d t : ℕ) → end ≤ length bytes → number_at 2 (end - 2) bytes ≡ t → is_type t ≡ true
     → big_number 6 (drop 6 bytes) ≡ s → big_number 6 (drop 0 bytes) ≡ d
     → typed bytes vlan pcp end ≡ Some (record { dl_src = s; dl_dst = d; dl_vlan = vlan; dl_vlan_pcp = pcp; dl_type = t; size = end })
 typed-read bytes vlan pcp end s d t long et ist es ed =
     if-true _ _ _ (both _ _ (le-leb _ _ long) (ap is_type et ∙ ist)) ∙ simp (et, es, ed)
 
-plain-read : (bytes : List ℕ) (s d t : ℕ) → 14 ≤ length bytes → pair_at 12 bytes ≡ t → is_type t ≡ true
+plain-read : (bytes : List ℕ) (s d t : ℕ) → 14 ≤ length bytes → number_at 2 12 bytes ≡ t → is_type t ≡ true
     → big_number 6 (drop 6 bytes) ≡ s → big_number 6 (drop 0 bytes) ≡ d
     → ethernet_of bytes ≡ Some (record { dl_src = s; dl_dst = d; dl_vlan = 0xffff; dl_vlan_pcp = 0; dl_type = t; size = 14 })
 unfolding ethernet_of
@@ -30,16 +31,16 @@ plain-read bytes s d t long et ist es ed =
     if-false _ _ _ (and-false (nat_le 16 (length bytes)) _ (ap (λ (x : ℕ). x == 0x8100) et ∙ type-no-tag t ist))
     ∙ typed-read bytes 0xffff 0 14 s d t long et ist es ed
 
-tagged-read : (bytes : List ℕ) (s d t v p : ℕ) → 18 ≤ length bytes → pair_at 12 bytes ≡ 0x8100 → pair_at 14 bytes ≡ p * 8192 + v
-    → v < 4096 → p < 8 → pair_at 16 bytes ≡ t → is_type t ≡ true
+tagged-read : (bytes : List ℕ) (s d t v p : ℕ) → 18 ≤ length bytes → number_at 2 12 bytes ≡ 0x8100 → number_at 2 14 bytes ≡ p * 8192 + v
+    → v < 4096 → p < 8 → number_at 2 16 bytes ≡ t → is_type t ≡ true
     → big_number 6 (drop 6 bytes) ≡ s → big_number 6 (drop 0 bytes) ≡ d
     → ethernet_of bytes ≡ Some (record { dl_src = s; dl_dst = d; dl_vlan = v; dl_vlan_pcp = p; dl_type = t; size = 18 })
 unfolding ethernet_of
 tagged-read bytes s d t v p long tag et vs ps ett ist es ed =
-    let ev : pair_at 14 bytes % 4096 ≡ v = rw et (omega arith) in
-    let ep : pair_at 14 bytes / 8192 ≡ p = rw et (omega arith) in
+    let ev : number_at 2 14 bytes % 4096 ≡ v = rw et (omega arith) in
+    let ep : number_at 2 14 bytes / 8192 ≡ p = rw et (omega arith) in
     if-true _ _ _ (both _ _ (le-leb 16 (length bytes) (omega arith)) (ap (λ (x : ℕ). x == 0x8100) tag))
-    ∙ ap (λ (x : ℕ). typed bytes x (pair_at 14 bytes / 8192) 18) ev
+    ∙ ap (λ (x : ℕ). typed bytes x (number_at 2 14 bytes / 8192) 18) ev
     ∙ ap (λ (x : ℕ). typed bytes v x 18) ep
     ∙ typed-read bytes v p 18 s d t long ett ist es ed
 

@@ -11,7 +11,8 @@ use Rattle.mon_packet.specs.declared.nonce.Nonce.{Nonce}
 use Rattle.mon_packet.specs.declared.ethernet.Ethernet.{Ethernet}
 use Rattle.mon_packet.specs.declared.transport.Transport.{Transport}
 use Rattle.mon_packet.specs.Frames.{payload, ipv4_header, tcp_header, udp_header, icmp_header}
-use Rattle.mon_packet.specs.Reading.{pair_at, total_of, nonce_of, is_ipv4, tcp_of, udp_of, icmp_of, transport_of, ipv4_fields, with_transport, packet_of}
+use Rattle.mon_fields.specs.Fields.{number_at}
+use Rattle.mon_packet.specs.Reading.{total_of, nonce_of, is_ipv4, tcp_of, udp_of, icmp_of, transport_of, ipv4_fields, with_transport, packet_of}
 use Rattle.mon_packet.proofs.Choosing.{if-true}
 
 pub record IsNonce (n : Nonce) : Type 0 where
@@ -107,12 +108,12 @@ unfolding transport_of tcp_of ipv4_header tcp_header
 tcp-read h sum check rest r =
     let packet : List ℕ = ipv4_header h 44 sum ++ (tcp_header h check ++ rest) in
     let t : total_of packet ≡ 64 = total-read h 44 sum (tcp_header h check ++ rest) (omega arith) in
-    let s : pair_at 20 packet ≡ h.tp_src = big_number-reads_back 2 h.tp_src (drop 22 packet) r.tp_src in
-    let d : pair_at 22 packet ≡ h.tp_dst = big_number-reads_back 2 h.tp_dst (drop 24 packet) r.tp_dst in
+    let s : number_at 2 20 packet ≡ h.tp_src = big_number-reads_back 2 h.tp_src (drop 22 packet) r.tp_src in
+    let d : number_at 2 22 packet ≡ h.tp_dst = big_number-reads_back 2 h.tp_dst (drop 24 packet) r.tp_dst in
     let found : ℕ → ℕ → Option Transport = λ x y. Some (record { tp_src = x; tp_dst = y; end = 40 }) in
-    if-true (nat_le 40 (total_of packet) && (slice_index packet 32 / 16 == 5)) (found (pair_at 20 packet) (pair_at 22 packet)) None
+    if-true (nat_le 40 (total_of packet) && (slice_index packet 32 / 16 == 5)) (found (number_at 2 20 packet) (number_at 2 22 packet)) None
     (both (nat_le 40 (total_of packet)) (slice_index packet 32 / 16 == 5) (le-leb 40 (total_of packet) (omega arith)) refl)
-    ∙ ap (λ (x : ℕ). found x (pair_at 22 packet)) s
+    ∙ ap (λ (x : ℕ). found x (number_at 2 22 packet)) s
     ∙ ap (found h.tp_src) d
 
 pub udp-read : (h : Header) (sum check : ℕ) (rest : List ℕ) → InRange h
@@ -121,14 +122,14 @@ unfolding transport_of udp_of ipv4_header udp_header
 udp-read h sum check rest r =
     let packet : List ℕ = ipv4_header h 32 sum ++ (udp_header h check ++ rest) in
     let t : total_of packet ≡ 52 = total-read h 32 sum (udp_header h check ++ rest) (omega arith) in
-    let l : pair_at 24 packet ≡ 32 = refl in
-    let s : pair_at 20 packet ≡ h.tp_src = big_number-reads_back 2 h.tp_src (drop 22 packet) r.tp_src in
-    let d : pair_at 22 packet ≡ h.tp_dst = big_number-reads_back 2 h.tp_dst (drop 24 packet) r.tp_dst in
+    let l : number_at 2 24 packet ≡ 32 = refl in
+    let s : number_at 2 20 packet ≡ h.tp_src = big_number-reads_back 2 h.tp_src (drop 22 packet) r.tp_src in
+    let d : number_at 2 22 packet ≡ h.tp_dst = big_number-reads_back 2 h.tp_dst (drop 24 packet) r.tp_dst in
     let found : ℕ → ℕ → Option Transport = λ x y. Some (record { tp_src = x; tp_dst = y; end = 28 }) in
-    if-true (nat_le 28 (total_of packet) && (pair_at 24 packet == total_of packet - 20)) (found (pair_at 20 packet) (pair_at 22 packet)) None
-    (both (nat_le 28 (total_of packet)) (pair_at 24 packet == total_of packet - 20) (le-leb 28 (total_of packet) (omega arith))
-    (eq-eqb (pair_at 24 packet) (total_of packet - 20) (omega arith)))
-    ∙ ap (λ (x : ℕ). found x (pair_at 22 packet)) s
+    if-true (nat_le 28 (total_of packet) && (number_at 2 24 packet == total_of packet - 20)) (found (number_at 2 20 packet) (number_at 2 22 packet)) None
+    (both (nat_le 28 (total_of packet)) (number_at 2 24 packet == total_of packet - 20) (le-leb 28 (total_of packet) (omega arith))
+    (eq-eqb (number_at 2 24 packet) (total_of packet - 20) (omega arith)))
+    ∙ ap (λ (x : ℕ). found x (number_at 2 22 packet)) s
     ∙ ap (found h.tp_src) d
 
 pub icmp-read : (h : Header) (sum check : ℕ) (rest : List ℕ) → h.tp_src < 256 → h.tp_dst < 256

@@ -13,7 +13,8 @@ use Rattle.mon_header.specs.Classes.{has_form}
 use Rattle.mon_packet.specs.declared.nonce.Nonce.{Nonce}
 use Rattle.mon_packet.specs.Sums.{sum_of, checksum}
 use Rattle.mon_packet.specs.Frames.{payload, ethernet_header, ethernet_size, ipv4_header, pseudo_header, tcp_header, udp_header, icmp_header, tcp_sum, udp_sum, icmp_sum, network_headers, body}
-use Rattle.mon_packet.specs.Reading.{pair_at, total_of, is_type}
+use Rattle.mon_fields.specs.Fields.{number_at}
+use Rattle.mon_packet.specs.Reading.{total_of, is_type}
 use Rattle.mon_packet.specs.Laws.{HasRightSums, packet_in, IsChecked}
 use Rattle.mon_header.proofs.Parting.{IsOf}
 use Rattle.mon_packet.proofs.Fitting.{class-parts}
@@ -122,7 +123,7 @@ unfolding ipv4_header icmp_header payload
 icmp-taken h n sum check pad = refl
 
 udp-sum-read : (h : Header) (n : Nonce) (sum check : ℕ) (pad : List ℕ) → check < 65536
-    → pair_at 26 (ipv4_header h 32 sum ++ (udp_header h check ++ (payload n ++ pad))) ≡ check
+    → number_at 2 26 (ipv4_header h 32 sum ++ (udp_header h check ++ (payload n ++ pad))) ≡ check
 unfolding ipv4_header udp_header
 udp-sum-read h n sum check pad small = big_number-reads_back 2 check (payload n ++ pad) small
 
@@ -155,12 +156,12 @@ udp-sums h n pad r e =
     let p : slice_index packet 9 ≡ 17 = proto-read h 32 sum rest ∙ e in
     let t : total_of packet ≡ 52 = total-read h 32 sum rest (omega arith) in
     let bare : ℕ = checksum (pseudo_header h 32 ++ (udp_header h 0 ++ payload n)) in
-    let read : pair_at 26 packet ≡ udp_sum h n = udp-sum-read h n sum (udp_sum h n) pad (zero-small bare (omega arith)) in
+    let read : number_at 2 26 packet ≡ udp_sum h n = udp-sum-read h n sum (udp_sum h n) pad (zero-small bare (omega arith)) in
     record {
       header = header-sum h 32 rest r;
       tcp = other-protocol packet 17 6 p (λ (x : 17 ≡ 6). absurd (omega arith));
       udp = λ _. ap (λ (k : ℕ). sum_of (taken packet k)) t ∙ ap sum_of (udp-taken h n sum (udp_sum h n) pad) ∙ udp-filled h n r;
-      udp_has_one = λ _. λ (z : pair_at 26 packet ≡ 0). not-zero bare (sym read ∙ z);
+      udp_has_one = λ _. λ (z : number_at 2 26 packet ≡ 0). not-zero bare (sym read ∙ z);
       icmp = other-protocol packet 17 1 p (λ (x : 17 ≡ 1). absurd (omega arith));
     }
 

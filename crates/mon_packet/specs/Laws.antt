@@ -6,7 +6,8 @@ use Rattle.mon_header.specs.Classes.{in_class}
 use Rattle.mon_packet.specs.declared.nonce.Nonce.{Nonce}
 use Rattle.mon_packet.specs.Sums.{sum_of}
 use Rattle.mon_packet.specs.Frames.{ethernet_size, rendered}
-use Rattle.mon_packet.specs.Reading.{pair_at, total_of, parsed}
+use Rattle.mon_fields.specs.Fields.{number_at}
+use Rattle.mon_packet.specs.Reading.{total_of, parsed}
 
 -- a frame shows the header of which it was rendered but for the port, and the nonce
 abbrev pub ReadsBack : Header → Nonce → Type 0
@@ -26,7 +27,7 @@ pub record HasRightSums (packet : List ℕ) : Type 0 where
   pub header : sum_of (take 20 packet) ≡ 0xffff
   pub tcp : slice_index packet 9 ≡ 6 → sum_of (pseudo_of packet ++ segment_of packet) ≡ 0xffff
   pub udp : slice_index packet 9 ≡ 17 → sum_of (pseudo_of packet ++ segment_of packet) ≡ 0xffff
-  pub udp_has_one : slice_index packet 9 ≡ 17 → pair_at 26 packet ≢ 0
+  pub udp_has_one : slice_index packet 9 ≡ 17 → number_at 2 26 packet ≢ 0
   pub icmp : slice_index packet 9 ≡ 1 → sum_of (segment_of packet) ≡ 0xffff
 
 -- the packet of IPv4 in a rendered frame

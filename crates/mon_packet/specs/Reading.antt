@@ -1,20 +1,16 @@
 -- How a frame is read (IEEE 802.1Q, RFC 791, 9293, 768, 792).
 use Rattle.std.specs.Prelude.{ℕ, ◌*◌, ◌-◌, ◌/◌, ◌%◌, Bool, not, ◌==◌, nat_le, ◌&&◌, if◌then◌else◌, List, drop, take, length, slice_index, Option, Some, None}
-use Rattle.byteorder.specs.Endian.{big_number}
+use Rattle.mon_fields.specs.Fields.{number_at}
 use Rattle.mon_header.specs.declared.header.Header.{Header}
 use Rattle.mon_packet.specs.declared.nonce.Nonce.{Nonce}
 use Rattle.mon_packet.specs.declared.ethernet.Ethernet.{Ethernet}
 use Rattle.mon_packet.specs.declared.transport.Transport.{Transport}
 
--- the number in two bytes at a place
-abbrev pub pair_at : ℕ → List ℕ → ℕ
-pair_at at bytes = big_number 2 (drop at bytes)
-
 -- the nonce of a payload: it is there where the mark is, with 16 bytes behind it
 unfoldable pub nonce_of : List ℕ → Option Nonce
 nonce_of payload =
-    if nat_le 24 (length payload) && (big_number 8 payload == 0x4d4f4e4f434c4531)
-    then Some (record { key = big_number 8 (drop 8 payload); serial = big_number 8 (drop 16 payload) })
+    if nat_le 24 (length payload) && (number_at 8 0 payload == 0x4d4f4e4f434c4531)
+    then Some (record { key = number_at 8 8 payload; serial = number_at 8 16 payload })
     else None
 
 -- a type at this place, and neither a length nor a further tag
@@ -24,13 +20,13 @@ is_type n = nat_le 0x0600 n && (not (n == 0x8100) && not (n == 0x88a8))
 -- the header of Ethernet with its type just before this place, and this tag
 abbrev pub typed : List ℕ → ℕ → ℕ → ℕ → Option Ethernet
 typed bytes vlan pcp end =
-    if nat_le end (length bytes) && is_type (pair_at (end - 2) bytes)
+    if nat_le end (length bytes) && is_type (number_at 2 (end - 2) bytes)
     then Some (record {
-      dl_src = big_number 6 (drop 6 bytes);
-      dl_dst = big_number 6 (drop 0 bytes);
+      dl_src = number_at 6 6 bytes;
+      dl_dst = number_at 6 0 bytes;
       dl_vlan = vlan;
       dl_vlan_pcp = pcp;
-      dl_type = pair_at (end - 2) bytes;
+      dl_type = number_at 2 (end - 2) bytes;
       size = end;
     })
     else None
@@ -38,13 +34,13 @@ typed bytes vlan pcp end =
 -- the header of Ethernet, with at most one tag, of which one bit is ignored
 unfoldable pub ethernet_of : List ℕ → Option Ethernet
 ethernet_of bytes =
-    if nat_le 16 (length bytes) && (pair_at 12 bytes == 0x8100)
-    then typed bytes (pair_at 14 bytes % 4096) (pair_at 14 bytes / 8192) 18
+    if nat_le 16 (length bytes) && (number_at 2 12 bytes == 0x8100)
+    then typed bytes (number_at 2 14 bytes % 4096) (number_at 2 14 bytes / 8192) 18
     else typed bytes 0xffff 0 14
 
 -- the total length that a packet of IPv4 says
 abbrev pub total_of : List ℕ → ℕ
-total_of packet = pair_at 2 packet
+total_of packet = number_at 2 2 packet
 
 -- a packet of IPv4 without options, whole and in one fragment
 unfoldable pub is_ipv4 : List ℕ → Bool
@@ -53,20 +49,20 @@ is_ipv4 packet =
     && ((slice_index packet 0 == 0x45)
     && (nat_le 20 (total_of packet)
     && (nat_le (total_of packet) (length packet)
-    && (pair_at 6 packet % 16384 == 0))))
+    && (number_at 2 6 packet % 16384 == 0))))
 
 -- the ports of TCP, whose header has no options
 unfoldable pub tcp_of : List ℕ → Option Transport
 tcp_of packet =
     if nat_le 40 (total_of packet) && (slice_index packet 32 / 16 == 5)
-    then Some (record { tp_src = pair_at 20 packet; tp_dst = pair_at 22 packet; end = 40 })
+    then Some (record { tp_src = number_at 2 20 packet; tp_dst = number_at 2 22 packet; end = 40 })
     else None
 
 -- the ports of UDP, which says the same length as IPv4
 unfoldable pub udp_of : List ℕ → Option Transport
 udp_of packet =
-    if nat_le 28 (total_of packet) && (pair_at 24 packet == total_of packet - 20)
-    then Some (record { tp_src = pair_at 20 packet; tp_dst = pair_at 22 packet; end = 28 })
+    if nat_le 28 (total_of packet) && (number_at 2 24 packet == total_of packet - 20)
+    then Some (record { tp_src = number_at 2 20 packet; tp_dst = number_at 2 22 packet; end = 28 })
     else None
 
 -- the type and the code of ICMP
@@ -112,8 +108,8 @@ ipv4_fields e t packet = record {
   dl_type = e.dl_type;
   nw_tos = slice_index packet 1 / 4 * 4;
   nw_proto = slice_index packet 9;
-  nw_src = big_number 4 (drop 12 packet);
-  nw_dst = big_number 4 (drop 16 packet);
+  nw_src = number_at 4 12 packet;
+  nw_dst = number_at 4 16 packet;
   tp_src = t.tp_src;
   tp_dst = t.tp_dst;
 }

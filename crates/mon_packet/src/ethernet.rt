@@ -5,8 +5,8 @@ ghost use Rattle.mon_header.specs.Classes.{in_class};
 ghost use Rattle.mon_packet.specs.Frames.{ethernet_header};
 ghost use Rattle.mon_packet.specs.Reading.{is_type, typed, ethernet_of};
 
-use crate::numbers::{u16_at, u48_at};
 use byteorder::{BigEndian, ByteOrder};
+use mon_fields::{u16_at, u48_at};
 use mon_header::Header;
 
 /// The type of a tag (IEEE 802.1Q).

@@ -11,7 +11,6 @@ mod cases;
 mod ethernet;
 mod laws;
 mod nonce;
-mod numbers;
 mod reading;
 mod sums;
 mod transport;

@@ -4,8 +4,8 @@ ghost use Rattle.std.specs.Prelude.{◌≡◌};
 ghost use Rattle.mon_packet.specs.Frames.{payload};
 ghost use Rattle.mon_packet.specs.Reading.{nonce_of};
 
-use crate::numbers::u64_at;
 use byteorder::{BigEndian, ByteOrder};
+use mon_fields::u64_at;
 
 /// `MONOCLE1`, as a number.
 const MARK: u64 = 0x4d4f4e4f434c4531;

@@ -5,8 +5,8 @@ ghost use Rattle.mon_packet.specs.Reading.{total_of, transport_of, with_transpor
 
 use crate::ethernet::{Ethernet, ethernet_of};
 use crate::nonce::{Nonce, nonce_of};
-use crate::numbers::{u16_at, u32_at};
 use crate::transport::{Transport, transport_of};
+use mon_fields::{u16_at, u32_at};
 use mon_header::Header;
 
 /// Whether this is a packet of IPv4 without options, whole and in one fragment.

@@ -3,7 +3,7 @@
 ghost use Rattle.std.specs.Prelude.{◌≡◌, ◌≤◌, IfSome, length, IsTrue};
 ghost use Rattle.mon_packet.specs.Reading.{total_of, tcp_of, udp_of, icmp_of, transport_of};
 
-use crate::numbers::u16_at;
+use mon_fields::u16_at;
 
 /// Ports, or the type and the code of ICMP, and the place in the packet behind their header.
 #[derive(Clone, Copy, Debug)]

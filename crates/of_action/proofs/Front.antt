@@ -5,7 +5,8 @@ use Rattle.std.proofs.lemmas.Bool.{ltb-false, eqb-false, eqb-true, not-false}
 use Rattle.std.proofs.lemmas.List.{drop-take, length-take}
 use Rattle.byteorder.specs.Endian.{big_number}
 use Rattle.byteorder.specs.Numbers.{big_from-take}
-use Rattle.of_action.specs.Reading.{number_at, kind_of, len_of, has_its_length, is_faulty, IsAction}
+use Rattle.mon_fields.specs.Fields.{number_at}
+use Rattle.of_action.specs.Reading.{kind_of, len_of, has_its_length, is_faulty, IsAction}
 
 -- a number reads no byte past its end
 pub number_at-take : (k place n : ℕ) (bytes : List ℕ) → place + k ≤ n → number_at k place (take n bytes) ≡ number_at k place bytes

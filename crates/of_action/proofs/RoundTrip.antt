@@ -1,16 +1,17 @@
 -- What is spelled is read back.
-use Rattle.std.proofs.Common.{◌≡◌, ℕ, ◌+◌, ◌%◌, ◌≤◌, true, false, not, ◌||◌, List, [], ◌∷◌, ◌++◌, length, take, drop, get_or, Ok, refl, sym, ap, ◌∙◌, arith}
+use Rattle.std.proofs.Common.{◌≡◌, ℕ, ◌+◌, ◌%◌, ◌≤◌, true, false, not, ◌||◌, List, [], ◌∷◌, ◌++◌, length, take, drop, Ok, refl, sym, ap, ◌∙◌, arith}
 use Rattle.std.specs.Prelude.{nat_lt, ◌==◌}
 use Rattle.std.proofs.lemmas.Bool.{lt-ltb, le-ltb, ne_eqb}
-use Rattle.std.proofs.lemmas.List.{take_at, drop_at, length-append, get_or-drop}
+use Rattle.std.proofs.lemmas.List.{take_at, drop_at, length-append}
 use Rattle.std.proofs.lemmas.List.Concat.{flat_map-cons}
 use Rattle.byteorder.specs.Numbers.{big_number-reads_back}
 use Rattle.mon_header.specs.declared.action.Action.{Action}
 use Rattle.mon_header.specs.declared.action.Action.TheVariants.{Output, SetVlanVid, SetVlanPcp, StripVlan, SetDlSrc, SetDlDst, SetNwSrc, SetNwDst, SetNwTos, SetTpSrc, SetTpDst, Enqueue, Unknown}
-use Rattle.mon_header.specs.Raw.{pair_at, IsRawAction}
+use Rattle.mon_header.specs.Raw.{IsRawAction}
 use Rattle.mon_header.specs.Actions.{FitsAction, AllFit}
 use Rattle.of_action.specs.Layout.{spelled_action, spelled}
-use Rattle.of_action.specs.Reading.{number_at, kind_of, len_of, has_its_length, is_faulty, IsAction, known_action, action_of, before, actions_from, actions_of}
+use Rattle.mon_fields.specs.Fields.{number_at}
+use Rattle.of_action.specs.Reading.{kind_of, len_of, has_its_length, is_faulty, IsAction, known_action, action_of, before, actions_from, actions_of}
 use Rattle.of_action.proofs.Front.{number_at-take}
 use Rattle.of_action.proofs.Loop.{first_read}
 
@@ -18,11 +19,6 @@ use Rattle.of_action.proofs.Loop.{first_read}
 number_at-front : (k place : ℕ) (bytes rest : List ℕ) → place + k ≤ length bytes → number_at k place (bytes ++ rest) ≡ number_at k place bytes
 number_at-front k place bytes rest le =
     sym (number_at-take k place (length bytes) (bytes ++ rest) le) ∙ ap (number_at k place) (take_at bytes rest (length bytes) refl)
-
-pair_is : (place : ℕ) (bytes : List ℕ) → number_at 2 place bytes ≡ pair_at place bytes
-pair_is place bytes =
-    let first : get_or (drop place bytes) 0 0 ≡ get_or bytes place 0 = get_or-drop place bytes 0 0 ∙ ap (λ (i : ℕ). get_or bytes i 0) (omega arith) in
-    omega (arith, get_or-drop place bytes 1 0)
 
 not_faulty : (all len kind : ℕ) → 8 ≤ len → len ≤ all → len % 8 ≡ 0 → has_its_length kind len ≡ true
     → (nat_lt all 4 || ((len == 0) || (not (len % 8 == 0) || (nat_lt all len || not (has_its_length kind len))))) ≡ false
@@ -41,7 +37,7 @@ whole_not_faulty bytes rest p =
 
 -- the unknown actions are those whose type stands above the table
 unknown_kind : (bytes : List ℕ) → IsRawAction bytes → nat_lt 11 (kind_of bytes) ≡ true
-unknown_kind bytes raw = lt-ltb 11 (kind_of bytes) (rw (pair_is 0 bytes) raw.unknown)
+unknown_kind bytes raw = lt-ltb 11 (kind_of bytes) raw.unknown
 
 -- what is spelled is a whole action
 spelled_whole : (action : Action) → FitsAction action → IsAction (spelled_action action)
@@ -59,7 +55,7 @@ spelled_whole (SetTpDst port) fits = record { header = omega arith; exact = refl
 spelled_whole (Enqueue port queue) fits = record { header = omega arith; exact = refl; whole = refl; right = refl }
 spelled_whole (Unknown bytes) fits = record {
   header = fits.header;
-  exact = pair_is 2 bytes ∙ fits.exact;
+  exact = fits.exact;
   whole = fits.whole;
   right = rw (unknown_kind bytes fits) refl;
 }

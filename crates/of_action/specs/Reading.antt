@@ -1,14 +1,10 @@
 -- Reading actions from left to right, up to the first place where an action is faulty.
 use Rattle.std.specs.Prelude.{◌≡◌, ℕ, zero, suc, ◌-◌, ◌%◌, ◌<◌, ◌≤◌, Bool, true, not, nat_lt, ◌==◌, ◌||◌, if◌then◌else◌, List, [], ◌∷◌, length, take, drop, slice_index, Result, Ok, Err}
-use Rattle.byteorder.specs.Endian.{big_number}
+use Rattle.mon_fields.specs.Fields.{number_at}
 use Rattle.mon_header.specs.declared.action.Action.{Action}
 use Rattle.mon_header.specs.declared.action.Action.TheVariants.{Output, SetVlanVid, SetVlanPcp, StripVlan, SetDlSrc, SetDlDst, SetNwSrc, SetNwDst, SetNwTos, SetTpSrc, SetTpDst, Enqueue, Unknown}
 use Rattle.of_action.specs.declared.fault.ActionFault.{ActionFault}
 use Rattle.of_action.specs.declared.fault.ActionFault.TheVariants as faults
-
--- the big-endian number in the n bytes from a place
-abbrev pub number_at : ℕ → ℕ → List ℕ → ℕ
-number_at n place bytes = big_number n (drop place bytes)
 
 abbrev pub kind_of : List ℕ → ℕ
 kind_of bytes = number_at 2 0 bytes

@@ -2,35 +2,13 @@
 
 ghost use Rattle.std.specs.Prelude.{◌≡◌, ◌≤◌, ◌<◌, ◌+◌, ◌^◌, true, false, length, take, drop, slice_index, IfOk};
 ghost use Rattle.mon_header.specs.Actions.{FitsAction};
-ghost use Rattle.of_action.specs.Reading.{number_at, kind_of, len_of, has_its_length, is_faulty, IsAction, known_action, action_of, actions_of, Reads};
+ghost use Rattle.of_action.specs.Reading.{kind_of, len_of, has_its_length, is_faulty, IsAction, known_action, action_of, actions_of, Reads};
 
 use crate::fault::ActionFault;
-use byteorder::{BigEndian, ByteOrder};
+use mon_fields::{u16_at, u32_at, u48_at};
 use mon_header::{Action, Actions, RawAction};
 use mon_list::OutOfMemory;
 use std::alloc::Global;
-
-fn u16_at(bytes: &[u8], place: usize) -> u16
-    requires { place + 2 ≤ length bytes.now }
-    ensures { result ≡ number_at 2 place bytes.now }
-{
-    BigEndian::read_u16(&bytes[place..])
-}
-
-fn u32_at(bytes: &[u8], place: usize) -> u32
-    requires { place + 4 ≤ length bytes.now }
-    ensures { result ≡ number_at 4 place bytes.now }
-{
-    BigEndian::read_u32(&bytes[place..])
-}
-
-fn u48_at(bytes: &[u8], place: usize) -> u64
-    requires { place + 6 ≤ length bytes.now }
-    ensures value { result ≡ number_at 6 place bytes.now }
-    ensures small { result < 2 ^ 48 }
-{
-    BigEndian::read_u48(&bytes[place..])
-}
 
 fn has_its_length(kind: u16, len: usize) -> bool
     ensures { result ≡ has_its_length kind len }

@@ -1,6 +1,7 @@
 -- The layout of a match (OpenFlow 1.0.0, flow match structures): 40 bytes, numbers with their highest byte first.
-use Rattle.std.specs.Prelude.{ℕ, List, ◌∷◌, ◌++◌, drop, slice_index}
-use Rattle.byteorder.specs.Endian.{big_number, big_bytes}
+use Rattle.std.specs.Prelude.{ℕ, List, ◌∷◌, ◌++◌, slice_index}
+use Rattle.byteorder.specs.Endian.{big_bytes}
+use Rattle.mon_fields.specs.Fields.{number_at}
 use Rattle.mon_header.specs.declared.header.Header.{Header}
 use Rattle.mon_header.specs.Wild.{packed, unpacked}
 use Rattle.mon_header.specs.Matching.{Matching, normal}
@@ -8,23 +9,23 @@ use Rattle.mon_header.specs.Matching.{Matching, normal}
 -- the fields, each at its place; pads are left out
 unfoldable pub fields_of : List ℕ → Header
 fields_of bytes = record {
-  in_port = big_number 2 (drop 4 bytes);
-  dl_src = big_number 6 (drop 6 bytes);
-  dl_dst = big_number 6 (drop 12 bytes);
-  dl_vlan = big_number 2 (drop 18 bytes);
+  in_port = number_at 2 4 bytes;
+  dl_src = number_at 6 6 bytes;
+  dl_dst = number_at 6 12 bytes;
+  dl_vlan = number_at 2 18 bytes;
   dl_vlan_pcp = slice_index bytes 20;
-  dl_type = big_number 2 (drop 22 bytes);
+  dl_type = number_at 2 22 bytes;
   nw_tos = slice_index bytes 24;
   nw_proto = slice_index bytes 25;
-  nw_src = big_number 4 (drop 28 bytes);
-  nw_dst = big_number 4 (drop 32 bytes);
-  tp_src = big_number 2 (drop 36 bytes);
-  tp_dst = big_number 2 (drop 38 bytes);
+  nw_src = number_at 4 28 bytes;
+  nw_dst = number_at 4 32 bytes;
+  tp_src = number_at 2 36 bytes;
+  tp_dst = number_at 2 38 bytes;
 }
 
 -- the match that the bytes say, in its normalised form
 unfoldable pub match_of : List ℕ → Matching
-match_of bytes = normal (unpacked (big_number 4 (drop 0 bytes))) (fields_of bytes)
+match_of bytes = normal (unpacked (number_at 4 0 bytes)) (fields_of bytes)
 
 -- the bytes of a match, with pads of 0 before dl_type and before nw_src
 unfoldable pub spelled : Matching → List ℕ

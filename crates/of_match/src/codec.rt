@@ -1,33 +1,11 @@
 //! Matches and their bytes.
 
-ghost use Rattle.std.specs.Prelude.{◌≡◌, ◌≤◌, ◌<◌, ◌^◌, ◌+◌, drop};
-ghost use Rattle.byteorder.specs.Endian.{big_number};
+ghost use Rattle.std.specs.Prelude.{◌≡◌, ◌<◌, ◌^◌};
 ghost use Rattle.of_match.specs.Layout.{fields_of, match_of, spelled};
 
 use byteorder::{BigEndian, ByteOrder};
+use mon_fields::{u16_at, u32_at, u48_at};
 use mon_header::{Header, Match};
-
-fn u16_at(bytes: &[u8; 40], at: usize) -> u16
-    requires { at + 2 ≤ 40 }
-    ensures { result ≡ big_number 2 (drop at bytes.now) }
-{
-    BigEndian::read_u16(&bytes[at..])
-}
-
-fn u32_at(bytes: &[u8; 40], at: usize) -> u32
-    requires { at + 4 ≤ 40 }
-    ensures { result ≡ big_number 4 (drop at bytes.now) }
-{
-    BigEndian::read_u32(&bytes[at..])
-}
-
-fn u48_at(bytes: &[u8; 40], at: usize) -> u64
-    requires { at + 6 ≤ 40 }
-    ensures value { result ≡ big_number 6 (drop at bytes.now) }
-    ensures small { result < 2 ^ 48 }
-{
-    BigEndian::read_u48(&bytes[at..])
-}
 
 /// The fields as they stand in the bytes.
 #[tactic(auto, unfolding(crate::specs::Layout::fields_of))]

@@ -3,7 +3,8 @@ use Rattle.std.specs.Prelude.{◌≡◌, ℕ, ◌<◌, ◌≤◌, ◌^◌, List,
 use Rattle.byteorder.specs.Endian.{big_bytes}
 use Rattle.of_frame.specs.Header.{xid_of, made}
 use Rattle.of_match.specs.Layout.{match_of}
-use Rattle.of_action.specs.Reading.{number_at, actions_of}
+use Rattle.mon_fields.specs.Fields.{number_at}
+use Rattle.of_action.specs.Reading.{actions_of}
 use Rattle.of_action.specs.declared.fault.ActionFault.{ActionFault}
 use Rattle.of_action.specs.declared.fault.ActionFault.TheVariants as actions
 use Rattle.of_msgs.specs.declared.command.Command.{Command}

@@ -4,7 +4,7 @@ use Rattle.byteorder.specs.Endian.{big_bytes}
 use Rattle.mon_header.specs.declared.action.Action.TheVariants.{Output}
 use Rattle.of_frame.specs.Header.{kind_of, xid_of, made}
 use Rattle.of_action.specs.Layout.{spelled}
-use Rattle.of_action.specs.Reading.{number_at}
+use Rattle.mon_fields.specs.Fields.{number_at}
 
 -- a FEATURES_REPLY begins with the datapath at 8; its ports begin at 32
 abbrev pub datapath_of : List ℕ → Option ℕ

@@ -5,7 +5,8 @@ use Rattle.std.proofs.lemmas.Bool.{ltb-false}
 use Rattle.mon_header.specs.declared.action.Action.{Action}
 use Rattle.of_frame.specs.Header.{xid_of}
 use Rattle.of_match.specs.Layout.{match_of}
-use Rattle.of_action.specs.Reading.{number_at, actions_of}
+use Rattle.mon_fields.specs.Fields.{number_at}
+use Rattle.of_action.specs.Reading.{actions_of}
 use Rattle.of_msgs.specs.declared.command.Command.{Command}
 use Rattle.of_msgs.specs.declared.command.Command.TheVariants.{Add, Modify, ModifyStrict, Delete, DeleteStrict}
 use Rattle.of_msgs.specs.declared.fault.ModFault.{ModFault}

@@ -6,7 +6,7 @@ ghost use Rattle.of_frame.specs.Header.{kind_of, xid_of};
 ghost use Rattle.of_msgs.specs.Layout.{IsError, error_of};
 
 use crate::kinds::ERROR;
-use crate::numbers::u16_at;
+use mon_fields::u16_at;
 use mon_list::OutOfMemory;
 use of_frame::Frame;
 use std::alloc::Global;

@@ -17,7 +17,6 @@ pub mod flags;
 mod flow_mod;
 pub mod kinds;
 mod laws;
-mod numbers;
 mod packet;
 pub mod ports;
 mod reading;

@@ -4,8 +4,8 @@ ghost use Rattle.std.specs.Prelude.{◌≡◌, ◌≤◌, ◌<◌, length, Match
 ghost use Rattle.of_msgs.specs.Layout.{IsPacketIn, IsPacketOut, output_to, own_xid, packet_out_of};
 
 use crate::kinds::PACKET_OUT;
-use crate::numbers::u16_at;
 use crate::ports;
+use mon_fields::u16_at;
 use mon_list::OutOfMemory;
 use of_frame::Frame;
 use std::alloc::Global;

@@ -9,7 +9,7 @@ ghost use Rattle.of_msgs.specs.ReadMods.{flow_mod_in};
 use crate::command::command_of;
 use crate::fault::ModFault;
 use crate::flow_mod::{FlowMod, RawActions};
-use crate::numbers::{u16_at, u32_at, u64_at};
+use mon_fields::{u16_at, u32_at, u64_at};
 use of_action::read_actions;
 use of_frame::Frame;
 use of_match::read_match;

@@ -1,0 +1,7 @@
+-- Fields of fixed places in bytes.
+use Rattle.std.specs.Prelude.{ℕ, List, drop}
+use Rattle.byteorder.specs.Endian.{big_number}
+
+-- the big-endian number in the n bytes from a place
+abbrev pub number_at : ℕ → ℕ → List ℕ → ℕ
+number_at n place bytes = big_number n (drop place bytes)
