@@ -5,12 +5,12 @@ use Rattle.std.specs.List.{slice_get}
 use Rattle.mon_cnf.specs.declared.clause.Lit.{Lit}
 use Rattle.mon_cnf.specs.Truth.{values_of, formula_true}
 use Rattle.mon_header.specs.declared.header.Header.{Header}
+use Rattle.mon_header.specs.Same.{same_header}
 use Rattle.mon_table.specs.declared.rule.Rule.{Rule}
 use Rattle.mon_table.specs.Tables.{IsTable}
 use Rattle.mon_table.proofs.Members.{after-table}
 use Rattle.mon_outcome.specs.declared.emission.Emission.{Emission}
 use Rattle.mon_outcome.specs.declared.rewrite.Rewrite.{Rewrite}
-use Rattle.mon_outcome.specs.Emitting.{same_header}
 use Rattle.mon_outcome.specs.Filling.{filled}
 use Rattle.mon_shows.specs.Views.{IsView}
 use Rattle.mon_shows.specs.Separation.{taken_back, without_update, separates}

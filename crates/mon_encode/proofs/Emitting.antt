@@ -11,6 +11,7 @@ use Rattle.mon_header.specs.declared.header.Header.{Header}
 use Rattle.mon_header.specs.declared.action.Action.{Action}
 use Rattle.mon_header.specs.Actions.{AllFit}
 use Rattle.mon_header.specs.Classes.{is_in_class}
+use Rattle.mon_header.specs.Same.{same_header}
 use Rattle.mon_table.specs.declared.rule.Rule.{Rule}
 use Rattle.mon_outcome.specs.declared.door.Door.{Door}
 use Rattle.mon_outcome.specs.declared.door.Door.TheVariants as door
@@ -18,7 +19,7 @@ use Rattle.mon_outcome.specs.declared.emission.Emission.{Emission}
 use Rattle.mon_outcome.specs.declared.emission.Emission.TheVariants.{Miss}
 use Rattle.mon_outcome.specs.declared.rewrite.Rewrite.{Rewrite}
 use Rattle.mon_outcome.specs.declared.shape.Shape.{Shape}
-use Rattle.mon_outcome.specs.Emitting.{Emitted, any_unknown, emissions, emission_at, through, same_header, same_emission, is_among, is_among_whole, must, may}
+use Rattle.mon_outcome.specs.Emitting.{Emitted, any_unknown, emissions, emission_at, through, same_emission, is_among, is_among_whole, must, may}
 use Rattle.mon_outcome.specs.Filling.{filled, filled_field}
 use Rattle.mon_outcome.specs.Shaping.{shapes_of, emitted_by}
 use Rattle.mon_outcome.proofs.Equality.{emission-same}

@@ -11,3 +11,4 @@ pub mod Spelling
 pub mod Placing
 pub mod Classing
 pub mod Parting
+pub mod Same

@@ -6,3 +6,4 @@ pub mod Places
 pub mod Raw
 pub mod Actions
 pub mod Classes
+pub mod Same

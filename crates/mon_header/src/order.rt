@@ -2,6 +2,7 @@
 
 ghost use Rattle.std.specs.Prelude.{◌≡◌, ◌↔◌, IsTrue, length};
 ghost use Rattle.mon_header.specs.Order.{key, is_less, match_before};
+ghost use Rattle.mon_header.specs.Same.{same_header};
 
 use crate::header::Header;
 use crate::matching::Match;
@@ -54,8 +55,10 @@ pub fn match_before(a: &Match, b: &Match) -> bool
 }
 
 /// Whether two headers are equal.
+#[tactic(auto, unfolding(crate::specs::Same::same_header))]
 pub fn same_header(a: &Header, b: &Header) -> bool
-    ensures { IsTrue result ↔ (a.now ≡ b.now) }
+    ensures value { result ≡ same_header a.now b.now }
+    ensures equal { IsTrue result ↔ (a.now ≡ b.now) }
 {
     a == b
 }

@@ -6,8 +6,8 @@ use Rattle.std.proofs.lemmas.Bool.{eq-eqb, and_left, and_right}
 use Rattle.mon_cnf.specs.declared.clause.Lit.{Lit}
 use Rattle.mon_cnf.specs.Truth.{lit_true, clause_true}
 use Rattle.mon_header.specs.declared.header.Header.{Header}
+use Rattle.mon_header.specs.Same.{same_header}
 use Rattle.mon_outcome.specs.declared.rewrite.Rewrite.{Rewrite}
-use Rattle.mon_outcome.specs.Emitting.{same_header}
 use Rattle.mon_outcome.specs.Filling.{filled_field, filled, laid}
 use Rattle.mon_literals.specs.Bearing.{Bears}
 use Rattle.mon_literals.specs.Runs.{run, spelled}

@@ -12,9 +12,9 @@ use Rattle.mon_header.specs.declared.action.Action.TheVariants.{Output, SetVlanV
 use Rattle.mon_header.specs.Actions.{FitsAction, AllFit}
 use Rattle.mon_header.specs.Matching.{InRange}
 use Rattle.mon_header.specs.Classes.{fits, has_tag_fields, has_no_network_fields, is_plain_type, has_form, is_in_class, in_class}
-use Rattle.mon_header.proofs.Twelve.{first, second, both, join}
+use Rattle.mon_header.proofs.Twelve.{first, both, join}
 use Rattle.mon_header.proofs.Parting.{IsOf, parts}
-use Rattle.mon_header.proofs.Classing.{some-class, class-range}
+use Rattle.mon_header.proofs.Classing.{some-class}
 use Rattle.mon_outcome.specs.Acting.{is_untagged, is_ipv4, has_ports, act, apply}
 use Rattle.mon_outcome.specs.declared.door.Door.{Door}
 use Rattle.mon_outcome.specs.declared.door.Door.TheVariants.{Port, Controller}

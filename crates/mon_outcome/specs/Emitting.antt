@@ -5,6 +5,7 @@ use Rattle.mon_header.specs.declared.header.Header.{Header}
 use Rattle.mon_header.specs.declared.action.Action.{Action}
 use Rattle.mon_header.specs.declared.action.Action.TheVariants.{Output, SetVlanVid, SetVlanPcp, StripVlan, SetDlSrc, SetDlDst, SetNwSrc, SetNwDst, SetNwTos, SetTpSrc, SetTpDst, Enqueue, Unknown}
 use Rattle.mon_header.specs.Classes.{is_in_class}
+use Rattle.mon_header.specs.Same.{same_header}
 use Rattle.mon_outcome.specs.declared.door.Door.{Door}
 use Rattle.mon_outcome.specs.declared.door.Door.TheVariants as door
 use Rattle.mon_outcome.specs.declared.emission.Emission.{Emission}
@@ -86,22 +87,6 @@ abbrev pub emission_at : List Emitted → ℕ → Option Emission
 emission_at [] position = None
 emission_at (m ∷ rest) zero = Some m.0
 emission_at (m ∷ rest) (suc position) = emission_at rest position
-
--- two headers agree in each field
-unfoldable pub same_header : Header → Header → Bool
-same_header a b =
-    (a.in_port == b.in_port)
-    && ((a.dl_src == b.dl_src)
-    && ((a.dl_dst == b.dl_dst)
-    && ((a.dl_vlan == b.dl_vlan)
-    && ((a.dl_vlan_pcp == b.dl_vlan_pcp)
-    && ((a.dl_type == b.dl_type)
-    && ((a.nw_tos == b.nw_tos)
-    && ((a.nw_proto == b.nw_proto)
-    && ((a.nw_src == b.nw_src)
-    && ((a.nw_dst == b.nw_dst)
-    && ((a.tp_src == b.tp_src)
-    && (a.tp_dst == b.tp_dst)))))))))))
 
 -- two emissions are equal
 abbrev pub same_emission : Emission → Emission → Bool

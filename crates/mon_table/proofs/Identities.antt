@@ -5,12 +5,12 @@ use Rattle.std.specs.Bool.{beq}
 use Rattle.std.specs.Cmp.{booleans_Decides}
 use Rattle.std.proofs.lemmas.Bool.{and_parts, and_from, eqb-true, eq-eqb, false≢true, false_from_ne_true}
 use Rattle.std.proofs.lemmas.Bool.Decides.{nat_tests}
-use Rattle.mon_header.specs.declared.header.Header.{Header}
 use Rattle.mon_header.specs.declared.wild.Wildcards.{Wildcards}
 use Rattle.mon_header.specs.Matching.{Matching, IsNormal}
 use Rattle.mon_header.specs.Order.{match_before}
+use Rattle.mon_header.proofs.Same.{same_header-is, same_header-self}
 use Rattle.mon_header.proofs.Sorting.{before-self, before-more, before-neither}
-use Rattle.mon_table.specs.Rules.{Identity, same_wild, same_header, same_match, same_identity, comes_before}
+use Rattle.mon_table.specs.Rules.{Identity, same_wild, same_match, same_identity, comes_before}
 
 same_wild-is : (a b : Wildcards) → same_wild a b ≡ true → a ≡ b
 unfolding same_wild
@@ -41,42 +41,9 @@ same_wild-is a b e0 =
     let all : (let x : Wildcards = record { in_port = a.in_port; dl_vlan = a.dl_vlan; dl_src = a.dl_src; dl_dst = a.dl_dst; dl_type = a.dl_type; nw_proto = a.nw_proto; tp_src = a.tp_src; tp_dst = a.tp_dst; dl_vlan_pcp = a.dl_vlan_pcp; nw_tos = a.nw_tos; nw_src = a.nw_src; nw_dst = a.nw_dst } in x) ≡ record { in_port = b.in_port; dl_vlan = b.dl_vlan; dl_src = b.dl_src; dl_dst = b.dl_dst; dl_type = b.dl_type; nw_proto = b.nw_proto; tp_src = b.tp_src; tp_dst = b.tp_dst; dl_vlan_pcp = b.dl_vlan_pcp; nw_tos = b.nw_tos; nw_src = b.nw_src; nw_dst = b.nw_dst } = cc in
     all
 
-same_header-is : (a b : Header) → same_header a b ≡ true → a ≡ b
-unfolding same_header
-same_header-is a b e0 =
-    let e1 = and_parts (a.in_port == b.in_port) _ e0 in
-    let p0 : a.in_port ≡ b.in_port = eqb-true _ _ e1.0 in
-    let e2 = and_parts (a.dl_src == b.dl_src) _ e1.1 in
-    let p1 : a.dl_src ≡ b.dl_src = eqb-true _ _ e2.0 in
-    let e3 = and_parts (a.dl_dst == b.dl_dst) _ e2.1 in
-    let p2 : a.dl_dst ≡ b.dl_dst = eqb-true _ _ e3.0 in
-    let e4 = and_parts (a.dl_vlan == b.dl_vlan) _ e3.1 in
-    let p3 : a.dl_vlan ≡ b.dl_vlan = eqb-true _ _ e4.0 in
-    let e5 = and_parts (a.dl_vlan_pcp == b.dl_vlan_pcp) _ e4.1 in
-    let p4 : a.dl_vlan_pcp ≡ b.dl_vlan_pcp = eqb-true _ _ e5.0 in
-    let e6 = and_parts (a.dl_type == b.dl_type) _ e5.1 in
-    let p5 : a.dl_type ≡ b.dl_type = eqb-true _ _ e6.0 in
-    let e7 = and_parts (a.nw_tos == b.nw_tos) _ e6.1 in
-    let p6 : a.nw_tos ≡ b.nw_tos = eqb-true _ _ e7.0 in
-    let e8 = and_parts (a.nw_proto == b.nw_proto) _ e7.1 in
-    let p7 : a.nw_proto ≡ b.nw_proto = eqb-true _ _ e8.0 in
-    let e9 = and_parts (a.nw_src == b.nw_src) _ e8.1 in
-    let p8 : a.nw_src ≡ b.nw_src = eqb-true _ _ e9.0 in
-    let e10 = and_parts (a.nw_dst == b.nw_dst) _ e9.1 in
-    let p9 : a.nw_dst ≡ b.nw_dst = eqb-true _ _ e10.0 in
-    let e11 = and_parts (a.tp_src == b.tp_src) _ e10.1 in
-    let p10 : a.tp_src ≡ b.tp_src = eqb-true _ _ e11.0 in
-    let p11 : a.tp_dst ≡ b.tp_dst = eqb-true _ _ e11.1 in
-    let all : (let x : Header = record { in_port = a.in_port; dl_src = a.dl_src; dl_dst = a.dl_dst; dl_vlan = a.dl_vlan; dl_vlan_pcp = a.dl_vlan_pcp; dl_type = a.dl_type; nw_tos = a.nw_tos; nw_proto = a.nw_proto; nw_src = a.nw_src; nw_dst = a.nw_dst; tp_src = a.tp_src; tp_dst = a.tp_dst } in x) ≡ record { in_port = b.in_port; dl_src = b.dl_src; dl_dst = b.dl_dst; dl_vlan = b.dl_vlan; dl_vlan_pcp = b.dl_vlan_pcp; dl_type = b.dl_type; nw_tos = b.nw_tos; nw_proto = b.nw_proto; nw_src = b.nw_src; nw_dst = b.nw_dst; tp_src = b.tp_src; tp_dst = b.tp_dst } = cc in
-    all
-
 same_wild-self : (a : Wildcards) → same_wild a a ≡ true
 unfolding same_wild
 same_wild-self a = (and_from _ _ ((booleans_Decides a.in_port a.in_port).1 refl) (and_from _ _ ((booleans_Decides a.dl_vlan a.dl_vlan).1 refl) (and_from _ _ ((booleans_Decides a.dl_src a.dl_src).1 refl) (and_from _ _ ((booleans_Decides a.dl_dst a.dl_dst).1 refl) (and_from _ _ ((booleans_Decides a.dl_type a.dl_type).1 refl) (and_from _ _ ((booleans_Decides a.nw_proto a.nw_proto).1 refl) (and_from _ _ ((booleans_Decides a.tp_src a.tp_src).1 refl) (and_from _ _ ((booleans_Decides a.tp_dst a.tp_dst).1 refl) (and_from _ _ ((booleans_Decides a.dl_vlan_pcp a.dl_vlan_pcp).1 refl) (and_from _ _ ((booleans_Decides a.nw_tos a.nw_tos).1 refl) (and_from _ _ (eq-eqb a.nw_src a.nw_src refl) (eq-eqb a.nw_dst a.nw_dst refl))))))))))))
-
-same_header-self : (a : Header) → same_header a a ≡ true
-unfolding same_header
-same_header-self a = (and_from _ _ (eq-eqb a.in_port a.in_port refl) (and_from _ _ (eq-eqb a.dl_src a.dl_src refl) (and_from _ _ (eq-eqb a.dl_dst a.dl_dst refl) (and_from _ _ (eq-eqb a.dl_vlan a.dl_vlan refl) (and_from _ _ (eq-eqb a.dl_vlan_pcp a.dl_vlan_pcp refl) (and_from _ _ (eq-eqb a.dl_type a.dl_type refl) (and_from _ _ (eq-eqb a.nw_tos a.nw_tos refl) (and_from _ _ (eq-eqb a.nw_proto a.nw_proto refl) (and_from _ _ (eq-eqb a.nw_src a.nw_src refl) (and_from _ _ (eq-eqb a.nw_dst a.nw_dst refl) (and_from _ _ (eq-eqb a.tp_src a.tp_src refl) (eq-eqb a.tp_dst a.tp_dst refl))))))))))))
 
 pub same_match-is : (a b : Matching) → same_match a b ≡ true → a ≡ b
 unfolding same_match

@@ -1,10 +1,10 @@
 -- Rules: their rank, their identity, and the order in which they stand in a table.
 use Rattle.std.specs.Prelude.{ℕ, Bool, ◌==◌, nat_lt, ◌&&◌, ◌||◌}
 use Rattle.std.specs.Bool.{beq}
-use Rattle.mon_header.specs.declared.header.Header.{Header}
 use Rattle.mon_header.specs.declared.wild.Wildcards.{Wildcards}
 use Rattle.mon_header.specs.Matching.{Matching, effective}
 use Rattle.mon_header.specs.Order.{match_before}
+use Rattle.mon_header.specs.Same.{same_header}
 use Rattle.mon_table.specs.declared.rule.Rule.{Rule}
 
 -- the same fields are not compared, and the same low bits of the addresses
@@ -22,22 +22,6 @@ same_wild a b =
     && (beq a.nw_tos b.nw_tos
     && ((a.nw_src == b.nw_src)
     && (a.nw_dst == b.nw_dst)))))))))))
-
--- each field is equal
-unfoldable pub same_header : Header → Header → Bool
-same_header a b =
-    (a.in_port == b.in_port)
-    && ((a.dl_src == b.dl_src)
-    && ((a.dl_dst == b.dl_dst)
-    && ((a.dl_vlan == b.dl_vlan)
-    && ((a.dl_vlan_pcp == b.dl_vlan_pcp)
-    && ((a.dl_type == b.dl_type)
-    && ((a.nw_tos == b.nw_tos)
-    && ((a.nw_proto == b.nw_proto)
-    && ((a.nw_src == b.nw_src)
-    && ((a.nw_dst == b.nw_dst)
-    && ((a.tp_src == b.tp_src)
-    && (a.tp_dst == b.tp_dst)))))))))))
 
 -- the matches are equal
 unfoldable pub same_match : Matching → Matching → Bool
