@@ -3,11 +3,12 @@ use Rattle.std.proofs.Common.{◌≡◌, ◌↔◌, ◌⊎◌, true, false, not,
 use Rattle.std.specs.List.{AllByRecursion}
 use Rattle.std.specs.Option.{option_to_list}
 use Rattle.std.proofs.lemmas.Bool.{false≢true}
+use Rattle.mon_list.specs.Has.{Has}
 use Rattle.mon_table.specs.declared.rule.Rule.{Rule}
 use Rattle.mon_table.specs.declared.edit.Edit.{Edit}
 use Rattle.mon_table.specs.declared.edit.Edit.TheVariants.{Put}
 use Rattle.mon_table.specs.Rules.{identity_of, same_identity, comes_before}
-use Rattle.mon_table.specs.Tables.{Has, InOrder, rule_of, is_named}
+use Rattle.mon_table.specs.Tables.{InOrder, rule_of, is_named}
 use Rattle.mon_table.specs.Edits.{after}
 use Rattle.mon_table.proofs.Identities.{before-other}
 use Rattle.mon_table.proofs.Keeping.{order-filter}

@@ -3,11 +3,12 @@ use Rattle.std.proofs.Common.{◌≡◌, ◌↔◌, true, false, cond, List, [],
 use Rattle.std.specs.List.{filter, AllByRecursion}
 use Rattle.std.specs.Option.{option_to_list}
 use Rattle.std.proofs.lemmas.Bool.{false≢true, false_from_ne_true}
+use Rattle.mon_list.specs.Has.{Has}
 use Rattle.mon_table.specs.declared.rule.Rule.{Rule}
 use Rattle.mon_table.specs.declared.edit.Edit.{Edit}
 use Rattle.mon_table.specs.declared.edit.Edit.TheVariants.{Cut}
 use Rattle.mon_table.specs.Rules.{Identity, identity_of, same_identity}
-use Rattle.mon_table.specs.Tables.{Has, InOrder, rule_of, is_named}
+use Rattle.mon_table.specs.Tables.{InOrder, rule_of, is_named}
 use Rattle.mon_table.specs.Edits.{after}
 use Rattle.mon_table.proofs.Identities.{same-self}
 use Rattle.mon_table.proofs.Members.{has-filter, filter-has, after-members, members-after, one-rule}

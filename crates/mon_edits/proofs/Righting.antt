@@ -3,13 +3,14 @@ use Rattle.std.proofs.Common.{◌≡◌, true, false, cond, List, [], ◌∷◌,
 use Rattle.std.specs.List.{filter, AllByRecursion}
 use Rattle.std.specs.Option.{option_to_list}
 use Rattle.std.proofs.lemmas.Bool.{false≢true}
+use Rattle.mon_list.specs.Has.{Has}
 use Rattle.mon_header.specs.Matching.{Matching, IsNormal, covers}
 use Rattle.mon_header.proofs.Covering.{cover-law}
 use Rattle.mon_table.specs.declared.rule.Rule.{Rule}
 use Rattle.mon_table.specs.declared.edit.Edit.{Edit}
 use Rattle.mon_table.specs.declared.edit.Edit.TheVariants.{Cut}
 use Rattle.mon_table.specs.Rules.{Identity, identity_of, same_identity, comes_before}
-use Rattle.mon_table.specs.Tables.{Has, InOrder, IsTable, rule_of, is_named}
+use Rattle.mon_table.specs.Tables.{InOrder, IsTable, rule_of, is_named}
 use Rattle.mon_table.specs.Edits.{after, edited}
 use Rattle.mon_table.proofs.Identities.{same-is, same-self, before-other, other-turned}
 use Rattle.mon_table.proofs.Keeping.{order-filter}

@@ -1,9 +1,9 @@
 -- A table after the edits of a message.
 use Rattle.std.specs.Prelude.{◌≡◌, ◌⊎◌, Bool, true, false, not, ◌&&◌, List, [], ◌∷◌}
+use Rattle.mon_list.specs.Has.{Has}
 use Rattle.mon_table.specs.declared.rule.Rule.{Rule}
 use Rattle.mon_table.specs.declared.edit.Edit.{Edit}
 use Rattle.mon_table.specs.Rules.{identity_of, same_identity}
-use Rattle.mon_table.specs.Tables.{Has}
 use Rattle.mon_table.specs.Edits.{after, IsRight}
 use Rattle.of_msgs.specs.declared.flow_mod.FlowMod.{FlowMod}
 use Rattle.mon_edits.specs.Naming.{is_add, is_deletion, is_none, identity_in, named}

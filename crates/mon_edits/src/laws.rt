@@ -2,9 +2,10 @@
 
 ghost use Rattle.std.specs.Prelude.{◌≡◌, ◌↔◌, ◌⊎◌, ◌||◌, List, IsTrue};
 ghost use Rattle.std.specs.List.{AllByRecursion};
+ghost use Rattle.mon_list.specs.Has.{Has};
 ghost use Rattle.mon_header.specs.Matching.{IsNormal};
 ghost use Rattle.mon_table.specs.declared.rule.Rule.{Rule};
-ghost use Rattle.mon_table.specs.Tables.{Has, InOrder, IsTable};
+ghost use Rattle.mon_table.specs.Tables.{InOrder, IsTable};
 ghost use Rattle.of_msgs.specs.declared.flow_mod.FlowMod.{FlowMod};
 ghost use Rattle.mon_edits.specs.Naming.{is_add, is_deletion, named, adds_entry};
 ghost use Rattle.mon_edits.specs.Edits.{rule_in, edits_of};

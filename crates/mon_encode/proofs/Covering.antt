@@ -4,13 +4,13 @@ use Rattle.std.specs.Prelude.{◌==◌}
 use Rattle.std.specs.List.{slice_get, Contains}
 use Rattle.std.specs.Option.{option_to_list}
 use Rattle.std.proofs.lemmas.Bool.{and_parts, not-true, false≢true, eqb-true}
+use Rattle.mon_list.specs.Has.{Has}
 use Rattle.mon_header.specs.declared.class.Class.{Class}
 use Rattle.mon_header.specs.declared.header.Header.{Header}
 use Rattle.mon_header.specs.Classes.{in_class, is_in_class}
 use Rattle.mon_header.proofs.Classing.{some-class}
 use Rattle.mon_table.specs.declared.rule.Rule.{Rule}
 use Rattle.mon_table.specs.Rules.{identity_of}
-use Rattle.mon_table.specs.Tables.{Has}
 use Rattle.mon_table.specs.Places.{place_of}
 use Rattle.mon_table.specs.Winners.{wins, winners}
 use Rattle.mon_table.proofs.Members.{has-filter}

@@ -2,10 +2,11 @@
 use Rattle.std.proofs.Common.{◌≡◌, ℕ, zero, suc, ◌+◌, ◌<◌, true, false, List, [], ◌∷◌, ◌++◌, length, take, drop, set, Some, None, refl, sym, ap, subst, ◌∙◌, arith, add-one, ⊎_elim, Option}
 use Rattle.std.specs.List.{slice_get, insert, remove, position}
 use Rattle.std.proofs.lemmas.Bool.{cases_Bool}
+use Rattle.mon_list.specs.Has.{Has}
 use Rattle.mon_header.specs.Matching.{IsNormal}
 use Rattle.mon_table.specs.declared.rule.Rule.{Rule}
 use Rattle.mon_table.specs.Rules.{Identity, identity_of, same_identity}
-use Rattle.mon_table.specs.Tables.{Has, IsTable, rule_of, without, with_rule}
+use Rattle.mon_table.specs.Tables.{IsTable, rule_of, without, with_rule}
 use Rattle.mon_table.specs.Places.{place_of, stands_at}
 use Rattle.mon_table.proofs.Identities.{same-self}
 use Rattle.mon_table.proofs.Placing.{found-set, found-remove, found-rule, found-position, absent-insert}

@@ -3,13 +3,14 @@ use Rattle.std.proofs.Common.{◌≡◌, ℕ, true, false, not, ◌||◌, List, 
 use Rattle.std.specs.Prelude.{nat_le}
 use Rattle.std.specs.List.{slice_get, list_any}
 use Rattle.std.proofs.lemmas.Bool.{cases_Bool, and_parts, and_from, or_left, or_right, not-true, not_from_false, false≢true, both_ways}
+use Rattle.mon_list.specs.Has.{Has}
 use Rattle.mon_header.specs.declared.header.Header.{Header}
 use Rattle.mon_header.specs.Matching.{IsNormal, matches}
 use Rattle.mon_table.specs.declared.rule.Rule.{Rule}
 use Rattle.mon_table.specs.declared.edit.Edit.{Edit}
 use Rattle.mon_table.specs.declared.edit.Edit.TheVariants as edit
 use Rattle.mon_table.specs.Rules.{Identity, identity_of, rank, same_identity, comes_before}
-use Rattle.mon_table.specs.Tables.{Has, InOrder, IsTable}
+use Rattle.mon_table.specs.Tables.{InOrder, IsTable}
 use Rattle.mon_table.specs.Edits.{edited, after}
 use Rattle.mon_table.specs.Laws.{IsPut, IsLeft}
 use Rattle.mon_table.specs.Places.{place_of}

@@ -1,8 +1,9 @@
 //! The table without the update.
 
 ghost use Rattle.std.specs.Prelude.{◌≡◌, ◌<◌, ◌≤◌, ◌^◌, length, slice_index_or, None};
+ghost use Rattle.mon_list.specs.Has.{Has};
 ghost use Rattle.mon_table.specs.Rules.{identity_of, comes_before};
-ghost use Rattle.mon_table.specs.Tables.{Has, rule_of, without, with_rule};
+ghost use Rattle.mon_table.specs.Tables.{rule_of, without, with_rule};
 ghost use Rattle.mon_table.specs.Places.{place_of};
 ghost use Rattle.mon_shows.specs.Separation.{without_update};
 

@@ -2,12 +2,13 @@
 use Rattle.std.proofs.Common.{◌≡◌, ℕ, Bool, true, false, not, cond, List, [], ◌∷◌, Option, Some, None, refl, sym, ap, ◌∙◌, inl}
 use Rattle.std.specs.List.{filter, find}
 use Rattle.std.proofs.lemmas.Bool.{and_from, or_right, eq-eqb}
+use Rattle.mon_list.specs.Has.{Has}
 use Rattle.mon_header.specs.Matching.{Matching, agree_above, takes, matches, overlaps}
 use Rattle.mon_header.proofs.Sharing.{both-taken}
 use Rattle.mon_table.specs.declared.rule.Rule.{Rule}
 use Rattle.mon_table.specs.declared.edit.Edit.TheVariants as edit
 use Rattle.mon_table.specs.Rules.{identity_of, same_identity}
-use Rattle.mon_table.specs.Tables.{Has, rule_of, slice}
+use Rattle.mon_table.specs.Tables.{rule_of, slice}
 use Rattle.mon_table.specs.Edits.{after, IsRight}
 use Rattle.mon_table.proofs.Identities.{same-is}
 use Rattle.mon_table.proofs.Members.{filter-has, members-after}

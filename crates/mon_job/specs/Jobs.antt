@@ -1,8 +1,9 @@
 -- What a job asks.
 use Rattle.std.specs.Prelude.{◌≡◌, ℕ, List, Some, None}
+use Rattle.mon_list.specs.Has.{Has}
 use Rattle.mon_table.specs.declared.rule.Rule.{Rule}
 use Rattle.mon_table.specs.Rules.{identity_of}
-use Rattle.mon_table.specs.Tables.{Has, rule_of, slice}
+use Rattle.mon_table.specs.Tables.{rule_of, slice}
 use Rattle.mon_shows.specs.declared.target.Target.{Target}
 use Rattle.mon_shows.specs.declared.target.Target.TheVariants.{Put, Cut, Watch}
 use Rattle.mon_shows.specs.Views.{Viewing}

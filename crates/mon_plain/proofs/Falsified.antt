@@ -2,9 +2,9 @@
 use Rattle.std.proofs.Common.{◌≡◌, ℕ, ◌<◌, ◌≤◌, Bool, true, false, not, refl, sym, ap, ◌∙◌, List, [], ◌∷◌, length, set, Some, None, ⊎_elim, inl, inr}
 use Rattle.std.proofs.lemmas.List.{get_or-set_same, get_or_past}
 use Rattle.std.proofs.lemmas.Bool.{false≢true, and_parts, and_from, lt-ltb, not_from_false, cond-true, false_from_ne_true, cases_lt}
+use Rattle.mon_list.specs.Has.{Has}
 use Rattle.mon_cnf.specs.declared.clause.Lit.{Lit}
 use Rattle.mon_refute.specs.Follow.{opposite, is_true, is_false, falsify}
-use Rattle.mon_refute.specs.Has.{Has}
 use Rattle.mon_refute.proofs.Readings.{lit_is, true_has, has_true, not_not}
 use Rattle.mon_plain.specs.declared.look.Mark.{Mark}
 use Rattle.mon_plain.specs.declared.look.Mark.TheVariants.{Free, Is}

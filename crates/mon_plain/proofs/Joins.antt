@@ -2,9 +2,9 @@
 use Rattle.std.proofs.Common.{◌≡◌, ◌≢◌, ℕ, ◌+◌, ◌<◌, refl, sym, ap, ◌∙◌, subst, List, [], ◌∷◌, ◌++◌, length, get_or, take, Some, Bool, true, false, ◌⊎◌, ⊎_elim, inl, inr, arith, zero, suc}
 use Rattle.std.proofs.lemmas.List.{take_more}
 use Rattle.std.proofs.lemmas.Bool.{false≢true}
+use Rattle.mon_list.specs.Has.{Has}
 use mathlib.Core.Bool.{beq}
 use Rattle.mon_cnf.specs.declared.clause.Lit.{Lit}
-use Rattle.mon_refute.specs.Has.{Has}
 use Rattle.mon_refute.proofs.Readings.{lit_is}
 use Rattle.mon_plain.specs.Search.{Joined, Resolved}
 use Rattle.mon_refute.specs.Follow.{named}

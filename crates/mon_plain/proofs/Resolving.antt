@@ -3,11 +3,11 @@ use Rattle.std.proofs.Common.{◌≡◌, ◌≢◌, ℕ, true, false, not, refl,
 use Rattle.std.specs.Prelude.{◌==◌}
 use Rattle.std.proofs.lemmas.List.{get_or-set_other}
 use Rattle.std.proofs.lemmas.Bool.{false≢true, and_parts, and_from, eqb-true, or_right, or_cases, or_parts, false_from_ne_true, cases_eq, eqb-false}
+use Rattle.mon_list.specs.Has.{Has}
 use Rattle.mon_cnf.specs.declared.clause.Lit.{Lit}
 use Rattle.mon_refute.specs.declared.lines.LogLine.{LogLine}
 use Rattle.mon_refute.specs.declared.marks.Reading.TheVariants.{Contradicts, Gives}
 use Rattle.mon_refute.specs.Follow.{opposite, is_true, is_false, rest, reading, reading_of, named, by_hints, by_start, follows, mentions}
-use Rattle.mon_refute.specs.Has.{Has}
 use Rattle.mon_refute.proofs.Readings.{all_has, has_all, has_true, true_has, reading_none, reading_unit, opposite_opposite, not_not, hint_then}
 use Rattle.mon_plain.specs.declared.look.Mark.{Mark}
 use Rattle.mon_plain.specs.declared.look.Mark.TheVariants.{Free, Is}

@@ -1,11 +1,11 @@
 -- What the steps of the search answer.
 use Rattle.std.specs.Prelude.{◌≡◌, ◌≢◌, ℕ, ◌<◌, ◌+◌, true, false, ◌⊎◌, List, [], ◌∷◌, ◌++◌, length, replicate, Option, Some, None, slice_index_or}
 use Rattle.std.specs.List.{list_all}
+use Rattle.mon_list.specs.Has.{Has}
 use Rattle.mon_cnf.specs.declared.clause.Lit.{Lit}
 use Rattle.mon_cnf.specs.Formulas.{Cnf}
 use Rattle.mon_refute.specs.declared.lines.LogLine.{LogLine}
 use Rattle.mon_refute.specs.Follow.{named, literals_of, all_follow}
-use Rattle.mon_refute.specs.Has.{Has}
 use Rattle.mon_plain.specs.declared.look.Mark.{Mark}
 use Rattle.mon_plain.specs.declared.look.Mark.TheVariants.{Free}
 use Rattle.mon_plain.specs.declared.pick.Pick.{Pick}

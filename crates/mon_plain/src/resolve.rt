@@ -1,9 +1,9 @@
 //! Lines of the log: what follows from two clauses.
 
 ghost use Rattle.std.specs.Prelude.{◌≡◌, ◌++◌, ◌∷◌, [], List, IfOk, OnOk, OnErr, Some, IsTrue};
+ghost use Rattle.mon_list.specs.Has.{Has};
 ghost use Rattle.mon_cnf.specs.declared.clause.Lit.{Lit};
 ghost use Rattle.mon_refute.specs.Follow.{named, literals_of, mentions};
-ghost use Rattle.mon_refute.specs.Has.{Has};
 ghost use Rattle.mon_plain.specs.Search.{Joined, Resolved, Added, IsNamed};
 
 use mon_cnf::{Clause, Formula, Lit};

@@ -3,9 +3,10 @@ use Rattle.std.proofs.Common.{◌≡◌, ℕ, zero, suc, ◌+◌, ◌<◌, ◌�
 use Rattle.std.specs.Prelude.{IfOk}
 use Rattle.std.specs.Bool.{OnTrue}
 use Rattle.std.proofs.lemmas.List.{take_more, take_all}
+use Rattle.mon_list.specs.Has.{Has}
 use Rattle.mon_header.specs.Matching.{IsNormal}
 use Rattle.mon_table.specs.declared.rule.Rule.{Rule}
-use Rattle.mon_table.specs.Tables.{Has, IsTable, slice}
+use Rattle.mon_table.specs.Tables.{IsTable, slice}
 use Rattle.mon_table.proofs.Listing.{has-all}
 use Rattle.mon_table.proofs.Slicing.{slice-tied}
 use Rattle.mon_certificate.specs.declared.certificate.Certificate.{Certificate}

@@ -3,6 +3,7 @@ use Rattle.std.proofs.Common.{◌≡◌, true, not, List, [], ◌∷◌, ◌++�
 use Rattle.std.specs.Prelude.{◌&&◌, IfOk}
 use Rattle.std.specs.List.{AllByRecursion}
 use Rattle.std.proofs.lemmas.Bool.{and_parts, or_cases, false≢true}
+use Rattle.mon_list.specs.Has.{Has}
 use Rattle.mon_header.specs.declared.action.Action.{Action}
 use Rattle.mon_header.specs.declared.class.Class.{Class}
 use Rattle.mon_header.specs.declared.header.Header.{Header}
@@ -11,7 +12,7 @@ use Rattle.mon_header.specs.Classes.{is_in_class}
 use Rattle.mon_header.specs.Matching.{IsNormal}
 use Rattle.mon_header.proofs.Classing.{class-range}
 use Rattle.mon_table.specs.declared.rule.Rule.{Rule}
-use Rattle.mon_table.specs.Tables.{Has, IsTable}
+use Rattle.mon_table.specs.Tables.{IsTable}
 use Rattle.mon_table.specs.Winners.{winners}
 use Rattle.mon_table.proofs.Listing.{has-all}
 use Rattle.mon_outcome.specs.declared.emission.Emission.{Emission}

@@ -2,9 +2,10 @@
 
 ghost use Rattle.std.specs.Prelude.{◌≡◌, ◌<◌, length, slice_get, Some, IfOk};
 ghost use Rattle.std.specs.Bool.{OnTrue};
+ghost use Rattle.mon_list.specs.Has.{Has};
 ghost use Rattle.mon_header.specs.Actions.{AllFit};
 ghost use Rattle.mon_table.specs.declared.rule.Rule.{Rule};
-ghost use Rattle.mon_table.specs.Tables.{Has, IsTable};
+ghost use Rattle.mon_table.specs.Tables.{IsTable};
 ghost use Rattle.mon_certificate_file.specs.CertificateFile.{IsCertificateInRange};
 ghost use Rattle.mon_solve.specs.Accepting.{is_accepted, IsTrueOf};
 ghost use Rattle.mon_plan.specs.Planning.{watch_of, job_of, IsCertificate};

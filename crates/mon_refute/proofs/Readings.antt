@@ -3,11 +3,11 @@ use Rattle.std.proofs.Common.{◌≡◌, ℕ, Bool, true, false, not, cond, refl
 use Rattle.std.specs.Prelude.{◌==◌}
 use Rattle.std.specs.List.{list_all}
 use Rattle.std.proofs.lemmas.Bool.{false≢true, and_parts, and_from, not_from_false, cond-true, eqb-true, eq-eqb, cases_Bool, or_left, or_right, or_cases, both_ways}
+use Rattle.mon_list.specs.Has.{Has}
 use Rattle.mon_cnf.specs.declared.clause.Lit.{Lit}
 use Rattle.mon_refute.specs.declared.marks.Reading.{Reading}
 use Rattle.mon_refute.specs.declared.marks.Reading.TheVariants.{Contradicts, Gives, Neither}
 use Rattle.mon_refute.specs.Follow.{same, opposite, is_true, is_false, rest, reading, reading_of, named, by_hints}
-use Rattle.mon_refute.specs.Has.{Has}
 
 lits : (x y : ℕ) (p q : Bool) → x ≡ y → p ≡ q → (let l : Lit = record { var = x; positive = p } in l) ≡ record { var = y; positive = q }
 lits x y p q e f = cc

@@ -4,11 +4,12 @@ use Rattle.std.specs.Prelude.{◌==◌, nat_le}
 use Rattle.std.specs.List.{list_all, AllByRecursion}
 use Rattle.std.proofs.lemmas.List.{append-nil, drop_all}
 use Rattle.std.proofs.lemmas.Bool.{and_parts, and_from, and_left, or_left, or_right, cases_Bool, not_from_false, false≢true, false_from_ne_true, eqb-true, eq-eqb, le-leb, leb-true, ne_eqb}
+use Rattle.mon_list.specs.Has.{Has}
 use Rattle.mon_header.specs.declared.header.Header.{Header}
 use Rattle.mon_header.specs.Matching.{matches}
 use Rattle.mon_table.specs.declared.rule.Rule.{Rule}
 use Rattle.mon_table.specs.Rules.{identity_of, rank, comes_before}
-use Rattle.mon_table.specs.Tables.{Has, InOrder, places_from, places}
+use Rattle.mon_table.specs.Tables.{InOrder, places_from, places}
 use Rattle.mon_table.specs.Winners.{is_highest, wins}
 use Rattle.mon_table.specs.Places.{top_rank, is_at_rank}
 use Rattle.mon_table.proofs.Identities.{comes_before-falls}

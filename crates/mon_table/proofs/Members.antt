@@ -3,12 +3,13 @@ use Rattle.std.proofs.Common.{◌≡◌, ◌↔◌, ◌⊎◌, ℕ, suc, ◌<◌
 use Rattle.std.proofs.Common.{ap₂}
 use Rattle.std.specs.List.{filter, AllByRecursion}
 use Rattle.std.proofs.lemmas.Bool.{not-true, not_from_false, false≢true}
+use Rattle.mon_list.specs.Has.{Has}
 use Rattle.mon_header.specs.Matching.{IsNormal}
 use Rattle.mon_table.specs.declared.rule.Rule.{Rule}
 use Rattle.mon_table.specs.declared.edit.Edit.{Edit}
 use Rattle.mon_table.specs.declared.edit.Edit.TheVariants.{Put, Cut}
 use Rattle.mon_table.specs.Rules.{Identity, identity_of, same_identity, comes_before}
-use Rattle.mon_table.specs.Tables.{Has, InOrder, IsTable, without, placed, places_from, places}
+use Rattle.mon_table.specs.Tables.{InOrder, IsTable, without, placed, places_from, places}
 use Rattle.mon_table.specs.Edits.{edited, after}
 use Rattle.mon_table.specs.Laws.{IsPut, IsLeft}
 use Rattle.mon_table.proofs.Identities.{same-is, same-self, comes_before-self, comes_before-more}

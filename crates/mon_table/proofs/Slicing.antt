@@ -3,6 +3,7 @@ use Rattle.std.proofs.Common.{◌≡◌, Bool, true, false, not, cond, ◌||◌,
 use Rattle.std.specs.Prelude.{nat_le}
 use Rattle.std.specs.List.{list_any}
 use Rattle.std.proofs.lemmas.Bool.{and_parts, and_from, and_right, or_left, cases_Bool, not_from_false}
+use Rattle.mon_list.specs.Has.{Has}
 use Rattle.mon_header.specs.declared.header.Header.{Header}
 use Rattle.mon_header.specs.Matching.{Matching, IsNormal, matches, overlaps}
 use Rattle.mon_header.proofs.Sharing.{both-taken}
@@ -10,7 +11,7 @@ use Rattle.mon_table.specs.declared.rule.Rule.{Rule}
 use Rattle.mon_table.specs.declared.edit.Edit.{Edit}
 use Rattle.mon_table.specs.Edits.{edited, after}
 use Rattle.mon_table.specs.Rules.{rank}
-use Rattle.mon_table.specs.Tables.{Has, InOrder, IsTable, slice, ties, tied}
+use Rattle.mon_table.specs.Tables.{InOrder, IsTable, slice, ties, tied}
 use Rattle.mon_table.specs.Winners.{is_highest, wins, winners}
 use Rattle.mon_table.proofs.Keeping.{order-filter, table-filter}
 use Rattle.mon_table.proofs.Listing.{has-list_all, list_all-has}

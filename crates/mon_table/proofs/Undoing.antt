@@ -1,12 +1,13 @@
 -- An edit taken back leaves the table that it came to.
 use Rattle.std.proofs.Common.{◌≡◌, true, false, cond, List, [], ◌∷◌, Some, None, refl, sym, ap, subst, ◌∙◌, inl, inr, ⊎_elim}
 use Rattle.std.proofs.lemmas.Bool.{cases_Bool, false≢true, false_from_ne_true}
+use Rattle.mon_list.specs.Has.{Has}
 use Rattle.mon_header.specs.Matching.{IsNormal}
 use Rattle.mon_table.specs.declared.rule.Rule.{Rule}
 use Rattle.mon_table.specs.declared.edit.Edit.{Edit}
 use Rattle.mon_table.specs.declared.edit.Edit.TheVariants.{Put, Cut}
 use Rattle.mon_table.specs.Rules.{Identity, identity_of, same_identity}
-use Rattle.mon_table.specs.Tables.{Has, IsTable, rule_of}
+use Rattle.mon_table.specs.Tables.{IsTable, rule_of}
 use Rattle.mon_table.specs.Edits.{edited, after, inverse, undone, IsRight}
 use Rattle.mon_table.proofs.Identities.{same-is, same-self, same-turned}
 use Rattle.mon_table.proofs.Listing.{has-all}

@@ -1,10 +1,10 @@
 -- What the laws of tables say of an edit and a rule.
 use Rattle.std.specs.Prelude.{◌≡◌, false, List}
+use Rattle.mon_list.specs.Has.{Has}
 use Rattle.mon_table.specs.declared.rule.Rule.{Rule}
 use Rattle.mon_table.specs.declared.edit.Edit.{Edit}
 use Rattle.mon_table.specs.declared.edit.Edit.TheVariants.{Put, Cut}
 use Rattle.mon_table.specs.Rules.{identity_of, same_identity}
-use Rattle.mon_table.specs.Tables.{Has}
 use Rattle.mon_table.specs.Edits.{edited}
 
 -- the rule is the one that the edit puts

@@ -1,5 +1,5 @@
 -- A table is its list of rules, in table order.
-use Rattle.std.specs.Prelude.{◌≡◌, ℕ, suc, Bool, true, not, ◌==◌, ◌&&◌, ◌⊎◌, if◌then◌else◌, List, [], ◌∷◌, Option}
+use Rattle.std.specs.Prelude.{◌≡◌, ℕ, suc, Bool, true, not, ◌==◌, ◌&&◌, if◌then◌else◌, List, [], ◌∷◌, Option}
 use Rattle.std.specs.List.{filter, find, list_any, AllByRecursion}
 use Rattle.mon_header.specs.Matching.{Matching, IsNormal, covers, overlaps}
 use Rattle.mon_table.specs.declared.rule.Rule.{Rule}
@@ -18,11 +18,6 @@ AllNormal t = AllByRecursion (λ r. IsNormal r.matching) t
 pub record IsTable (t : List Rule) : Type 0 where
   pub order : InOrder t
   pub normal : AllNormal t
-
--- the rule is one of the table's
-abbrev pub Has : List Rule → Rule → Type 0
-Has [] r = ⊥
-Has (s ∷ t) r = (r ≡ s) ⊎ Has t r
 
 -- the rule of this identity
 abbrev pub rule_of : Identity → List Rule → Option Rule

@@ -2,12 +2,13 @@
 
 ghost use Rattle.std.specs.Prelude.{◌≡◌, ◌↔◌, ◌<◌, ◌⊎◌, ℕ, Bool, List, true, map, length, slice_index_or, IsTrue};
 ghost use Rattle.std.specs.List.{filter, AllByRecursion};
+ghost use Rattle.mon_list.specs.Has.{Has};
 ghost use Rattle.mon_header.specs.declared.header.Header.{Header};
 ghost use Rattle.mon_header.specs.Matching.{Matching, IsNormal, matches};
 ghost use Rattle.mon_table.specs.declared.rule.Rule.{Rule};
 ghost use Rattle.mon_table.specs.declared.edit.Edit.{Edit};
 ghost use Rattle.mon_table.specs.Rules.{Identity, identity_of, same_identity};
-ghost use Rattle.mon_table.specs.Tables.{Has, InOrder, IsTable, places, slice, tied};
+ghost use Rattle.mon_table.specs.Tables.{InOrder, IsTable, places, slice, tied};
 ghost use Rattle.mon_table.specs.Edits.{edited, after, undone, IsRight};
 ghost use Rattle.mon_table.specs.Winners.{winners};
 ghost use Rattle.mon_table.specs.Laws.{IsPut, IsLeft};

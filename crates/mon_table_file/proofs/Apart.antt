@@ -1,10 +1,11 @@
 -- Rules no two of which have one identity fill a table without replacing any.
 use Rattle.std.proofs.Common.{◌≡◌, ◌⊎◌, ⊎_elim, inl, inr, Bool, true, false, cond, refl, sym, ap, subst, ◌∙◌, List, [], ◌∷◌, Some, None}
 use Rattle.std.specs.List.{find}
+use Rattle.mon_list.specs.Has.{Has}
 use Rattle.mon_table.specs.declared.rule.Rule.{Rule}
 use Rattle.mon_table.specs.declared.edit.Edit.TheVariants.{Put}
 use Rattle.mon_table.specs.Rules.{Identity, identity_of, same_identity}
-use Rattle.mon_table.specs.Tables.{Has, rule_of, with_rule}
+use Rattle.mon_table.specs.Tables.{rule_of, with_rule}
 use Rattle.mon_table.specs.Edits.{after}
 use Rattle.mon_table.proofs.Listing.{all-has, has-all}
 use Rattle.mon_table.proofs.Identities.{other-turned}
