@@ -5,4 +5,3 @@ pub mod Making
 pub mod Sheeting
 pub mod SoFar
 pub mod Tagging
-pub mod Within

@@ -8,8 +8,7 @@ use Rattle.std.proofs.lemmas.Option.{none-some, cond_some, same_Some}
 use Rattle.mon_text.specs.Hex.{hex, hex_digit, byte_of, digit_of, AllBytes, AreBytes}
 use Rattle.mon_text.specs.Numbers.{NoDigit}
 use Rattle.mon_text.specs.Parts.{Part, behind, led, ended, both, passing, pair_in, bytes_in, run_in, number_within, datapath_in}
-use Rattle.mon_text.proofs.Joining.{IsReader, bound, mapped, pair_is, behind-found, behind-again, reader_led, reader_ended, reader_seen, reader_as, reader_both, reader_within}
-use Rattle.mon_table_file.proofs.Within.{number_within-found, number_within-again}
+use Rattle.mon_text.proofs.Joining.{IsReader, bound, mapped, pair_is, behind-found, behind-again, reader_led, reader_ended, reader_seen, reader_as, reader_both, reader_within, number_within-found, number_within-again}
 use Rattle.mon_text.proofs.InDigits.{reader_bytes, reader_datapath, run-found, run-again}
 use Rattle.mon_shows.specs.declared.near.Near.{Near}
 use Rattle.of_action.specs.Reading.{actions_of}
