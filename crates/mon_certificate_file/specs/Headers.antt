@@ -1,5 +1,5 @@
 -- Headers as 33 bytes: their 264 bits, eight to a byte. Each field has whole bytes, the highest first.
-use Rattle.std.specs.Prelude.{ℕ, ◌/◌, List, drop}
+use Rattle.std.specs.Prelude.{ℕ, ◌/◌, List}
 use Rattle.std.specs.List.{flat_map}
 use Rattle.byteorder.specs.Endian.{big_bytes}
 use Rattle.mon_fields.specs.Fields.{number_at}

@@ -1,5 +1,5 @@
 -- Faults of the outside have a count that rises with each, until it stands at its last value.
-use Rattle.std.specs.Prelude.{◌≡◌, ℕ, ◌+◌, ◌-◌, ◌^◌, ◌≤◌, min, Result, IsErrOf}
+use Rattle.std.specs.Prelude.{ℕ, ◌+◌, ◌-◌, ◌^◌, ◌≤◌, min, Result, IsErrOf}
 use Rattle.mon_world.specs.declared.desk.DeskFault.{DeskFault}
 use Rattle.mon_world.specs.declared.desk.DeskFault.TheVariants as desk
 use Rattle.mon_world.specs.declared.hub.HubFault.{HubFault}

@@ -1,5 +1,5 @@
 -- The history of a run, the newest entry first, and what a hub may give.
-use Rattle.std.specs.Prelude.{◌≡◌, ℕ, ◌+◌, ◌<◌, List, [], ◌∷◌, Option, Some, None}
+use Rattle.std.specs.Prelude.{ℕ, ◌+◌, ◌<◌, List, [], ◌∷◌, Option, Some, None}
 use Rattle.mon_world.specs.declared.event.Event.{Event}
 use Rattle.mon_world.specs.declared.event.Event.TheVariants.{Opened, Piece, Stop}
 use Rattle.mon_world.specs.declared.event.Out.{Out}

@@ -1,4 +1,4 @@
-use Rattle.std.proofs.Common.{ℕ, Option, Some, refl, sym, ◌∙◌, subst}
+use Rattle.std.proofs.Common.{ℕ, Option, refl, sym, ◌∙◌, subst}
 use Rattle.std.specs.Option.{IsSome}
 use Rattle.mon_encode.proofs.Standing.{own-place}
 use Rattle.mon_encode.proofs.undone.own_place.Goals as goal
