@@ -5,7 +5,7 @@ use Rattle.std.specs.List.{flat_map}
 use Rattle.std.proofs.lemmas.List.{append-nil}
 use Rattle.std.proofs.lemmas.Bool.{eqb-true}
 use Rattle.std.proofs.lemmas.Option.{none-some, some_pair_parts}
-use Rattle.mon_text.specs.Parts.{behind}
+use Rattle.mon_text.specs.Parts.{behind, feed}
 use Rattle.mon_text.specs.declared.fault.FileFault.{FileFault}
 use Rattle.mon_text.specs.declared.fault.FileFault.TheVariants as fault
 use Rattle.mon_text.proofs.Joining.{behind-found, behind-again}
@@ -16,7 +16,7 @@ use Rattle.mon_refute.specs.Text.{log_text, FitsLog}
 use Rattle.mon_refute.specs.Reading.{LogAt}
 use Rattle.mon_certificate.specs.declared.certificate.Certificate.{Certificate}
 use Rattle.mon_certificate.specs.declared.certificate.Certificate.TheVariants.{Probe, Nothing, Overlap}
-use Rattle.mon_certificate_file.specs.CertificateFile.{feed, logs_text, probe_text, nothing_text, certificate_text, row, certificates_text, FitsLogs, FitsCertificate, Spells, Reads}
+use Rattle.mon_certificate_file.specs.CertificateFile.{logs_text, probe_text, nothing_text, certificate_text, row, certificates_text, FitsLogs, FitsCertificate, Spells, Reads}
 use Rattle.mon_certificate_file.specs.Reading.{behind_rule, probe_in, overlap_in, count_in, head_in, PartAt, RowAt, ReadsPart}
 use Rattle.mon_certificate_file.proofs.LineReaders.{rule-found, rule-again, overlap-found, overlap-again, reader_probe, reader_count, head_words, reader_head}
 use Rattle.mon_certificate_file.proofs.Rows.{flat_is_row}

@@ -4,7 +4,7 @@ use Rattle.std.specs.Prelude.{option_and_then}
 use Rattle.std.specs.Int.{IsInRange}
 use Rattle.mon_text.specs.Hex.{hex, AreBytes}
 use Rattle.mon_text.specs.Numbers.{FitsNumber}
-use Rattle.mon_text.specs.Parts.{Part, behind, led, ended, both, seen, bytes_in, number_within}
+use Rattle.mon_text.specs.Parts.{Part, behind, led, ended, both, seen, bytes_in, number_within, feed}
 use Rattle.mon_text.proofs.Joining.{IsReader, bound, mapped, behind-found, behind-again, reader_led, reader_ended, reader_seen, reader_both, reader_within, reader_number}
 use Rattle.mon_text.proofs.InDigits.{reader_bytes}
 use Rattle.mon_header.specs.declared.header.Header.{Header}
@@ -12,7 +12,7 @@ use Rattle.mon_header.specs.Matching.{InRange}
 use Rattle.mon_outcome.specs.declared.emission.Emission.{Emission}
 use Rattle.mon_outcome.specs.declared.emission.Emission.TheVariants.{Port, Controller, Miss}
 use Rattle.mon_certificate_file.specs.Headers.{header_bytes, header_from}
-use Rattle.mon_certificate_file.specs.CertificateFile.{feed, header_text, emission_text, probe_text, FitsEmission}
+use Rattle.mon_certificate_file.specs.CertificateFile.{header_text, emission_text, probe_text, FitsEmission}
 use Rattle.mon_certificate_file.specs.Reading.{header_in, last_header, port_of, port_in, controller_in, miss_in, or_else, emission_in, behind_rule, probe_in, overlap_in, count_in, head_in}
 use Rattle.mon_certificate_file.proofs.Fields.{header-written, header-bytes, header-read, header-below}
 

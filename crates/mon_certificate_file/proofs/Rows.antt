@@ -1,20 +1,17 @@
 -- Items that are read one behind the other, each from its place on.
 use Rattle.std.proofs.Common.{◌≡◌, ℕ, suc, ◌+◌, ◌-◌, ◌<◌, ◌≤◌, refl, sym, ap, subst, ◌∙◌, List, [], ◌∷◌, ◌++◌, length, Result, Ok, Err, IfOk, arith, append_assoc, length-append}
-use Rattle.std.specs.List.{flat_map, AllByRecursion}
+use Rattle.std.specs.List.{flat_map}
 use Rattle.std.proofs.lemmas.List.{append-nil}
 use Rattle.mon_text.specs.declared.fault.FileFault.{FileFault}
 use Rattle.mon_text.specs.declared.fault.FileFault.TheVariants as fault
 use Rattle.mon_certificate_file.specs.CertificateFile.{row}
 use Rattle.mon_certificate_file.specs.Reading.{PartAt, RowAt, ReadsPart}
+use Rattle.mon_text.proofs.Growing.{all_push}
 
 -- a row of texts that don't depend on the place
 pub flat_is_row : {X : Type 0} (text : X → List ℕ) (place : ℕ) (xs : List X) → flat_map text xs ≡ row (λ _. text) place xs
 flat_is_row text place [] = refl
 flat_is_row text place (x ∷ xs) = ap (λ t. text x ++ t) (flat_is_row text (suc place) xs)
-
-pub all_push : {X : Type 0} (P : X → Type 0) (xs : List X) (x : X) → AllByRecursion P xs → P x → AllByRecursion P (xs ++ x ∷ [])
-all_push P [] x all p = (p, tt)
-all_push P (y ∷ ys) x all p = (all.0, all_push P ys x all.1 p)
 
 module _ {X : Type 0} (text : ℕ → X → List ℕ) (Fits : X → Type 0) where
   -- one item more

@@ -2,7 +2,7 @@
 use Rattle.std.proofs.Common.{◌≡◌, ℕ, suc, refl, sym, ap, ◌∙◌, List, [], ◌∷◌, ◌++◌, length, Some, arith, decimal, codes, append_assoc}
 use Rattle.std.specs.List.{flat_map, AllByRecursion}
 use Rattle.std.proofs.lemmas.List.{append-nil}
-use Rattle.mon_text.specs.Parts.{behind}
+use Rattle.mon_text.specs.Parts.{behind, feed}
 use Rattle.mon_text.proofs.Joining.{behind-again}
 use Rattle.mon_refute.specs.declared.lines.LogLine.{LogLine}
 use Rattle.mon_refute.specs.Text.{line_text, log_text, FitsLog}
@@ -10,19 +10,17 @@ use Rattle.mon_refute.specs.Reading.{CountAt, LinesAt}
 use Rattle.mon_refute.proofs.LineTexts.{log_once}
 use Rattle.mon_certificate.specs.declared.certificate.Certificate.{Certificate}
 use Rattle.mon_certificate.specs.declared.certificate.Certificate.TheVariants.{Probe, Nothing, Overlap}
-use Rattle.mon_certificate_file.specs.CertificateFile.{feed, logs_text, probe_text, nothing_text, certificate_text, row, FitsLogs, FitsCertificate, Spells}
+use Rattle.mon_certificate_file.specs.CertificateFile.{logs_text, probe_text, nothing_text, certificate_text, row, FitsLogs, FitsCertificate, Spells}
 use Rattle.mon_certificate_file.specs.Reading.{PartAt}
 use Rattle.mon_certificate_file.proofs.LineReaders.{overlap-again, reader_probe}
 use Rattle.mon_certificate_file.proofs.Certifying.{logs_count, logs_row, nothing_rule, nothing_part, probe_same, refuted_same, overlap_same, file_head, file_row}
+use Rattle.mon_refute.proofs.Items.{cons_parts}
 
 log-once : (l m : List LogLine) (r s : List ℕ) → FitsLog l → FitsLog m → log_text l ++ r ≡ log_text m ++ s → (l ≡ m) × (r ≡ s)
 log-once l m r s f g e =
     let count : CountAt (log_text l ++ r) (length l) (flat_map line_text l ++ r) = record { is = ap (λ t. codes "log " ++ t) (append_assoc (decimal (length l)) (10 ∷ flat_map line_text l) r); fits = f.0 } in
     let lines : LinesAt (flat_map line_text l ++ r) (length l) l r = record { is = refl; count_is = refl; fit = f.1 } in
     log_once (log_text l ++ r) (flat_map line_text l ++ r) r (length l) l m s count lines (record { is = e; fits = g })
-
-cons_parts : {X : Type 0} (x y : X) (xs ys : List X) → x ≡ y → xs ≡ ys → x ∷ xs ≡ y ∷ ys
-cons_parts x y xs ys e f = cc
 
 module _ {X : Type 0} (text : ℕ → X → List ℕ) (Fits : X → Type 0) (once : (n : ℕ) (x y : X) (r s : List ℕ) → Fits x → Fits y → text n x ++ r ≡ text n y ++ s → (x ≡ y) × (r ≡ s)) where
   row-once : (place : ℕ) (xs ys : List X) (r s : List ℕ) → length xs ≡ length ys → AllByRecursion Fits xs → AllByRecursion Fits ys → row text place xs ++ r ≡ row text place ys ++ s → (xs ≡ ys) × (r ≡ s)

@@ -3,9 +3,11 @@ use Rattle.std.proofs.Common.{◌≡◌, ℕ, zero, suc, ◌+◌, ◌<◌, sym, 
 use Rattle.std.specs.List.{AllByRecursion}
 use Rattle.std.proofs.lemmas.List.{take_more, length-take-le}
 use Rattle.mon_certificate.specs.declared.certificate.Certificate.{Certificate}
-use Rattle.mon_certificate_file.specs.CertificateFile.{feed, row, certificate_text, IsCertificateInRange, FitsCertificate}
+use Rattle.mon_certificate_file.specs.CertificateFile.{row, certificate_text, IsCertificateInRange, FitsCertificate}
 use Rattle.mon_certificate_file.proofs.LineReaders.{head_words}
-use Rattle.mon_certificate_file.proofs.Rows.{row_push, all_push}
+use Rattle.mon_certificate_file.proofs.Rows.{row_push}
+use Rattle.mon_text.proofs.Growing.{all_push}
+use Rattle.mon_text.specs.Parts.{feed}
 
 all_at : {X : Type 0} (P : X → Type 0) (xs : List X) (i : ℕ) (d : X) → i < length xs → AllByRecursion P xs → P (get_or xs i d)
 all_at P [] i d lt all = absurd (omega arith)

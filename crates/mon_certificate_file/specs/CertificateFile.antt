@@ -14,10 +14,7 @@ use Rattle.mon_refute.specs.Text.{log_text, FitsLog}
 use Rattle.mon_certificate.specs.declared.certificate.Certificate.{Certificate}
 use Rattle.mon_certificate.specs.declared.certificate.Certificate.TheVariants.{Probe, Nothing, Overlap}
 use Rattle.mon_certificate_file.specs.Headers.{header_bytes}
-
--- the end of a line
-abbrev pub feed : List ℕ
-feed = 10 ∷ []
+use Rattle.mon_text.specs.Parts.{feed}
 
 -- 66 digits
 abbrev pub header_text : Header → List ℕ

@@ -3,14 +3,14 @@ use Rattle.std.specs.Prelude.{◌≡◌, ℕ, List, ◌++◌, length, codes, dec
 use Rattle.std.specs.Borrow.{Bor}
 use Rattle.std.specs.List.{AllByRecursion}
 use Rattle.mon_text.specs.Numbers.{number_in}
-use Rattle.mon_text.specs.Parts.{Part, behind, led, ended, both, seen, bytes_in, number_within}
+use Rattle.mon_text.specs.Parts.{Part, behind, led, ended, both, seen, bytes_in, number_within, feed}
 use Rattle.mon_text.specs.declared.fault.FileFault.{FileFault}
 use Rattle.mon_text.specs.declared.fault.FileFault.TheVariants as fault
 use Rattle.mon_header.specs.declared.header.Header.{Header}
 use Rattle.mon_outcome.specs.declared.emission.Emission.{Emission}
 use Rattle.mon_outcome.specs.declared.emission.Emission.TheVariants.{Port, Controller, Miss}
 use Rattle.mon_certificate_file.specs.Headers.{header_from}
-use Rattle.mon_certificate_file.specs.CertificateFile.{feed, row}
+use Rattle.mon_certificate_file.specs.CertificateFile.{row}
 
 unfoldable pub header_in : List ℕ → Part Header
 header_in = seen header_from (bytes_in 33)

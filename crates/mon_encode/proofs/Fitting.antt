@@ -12,14 +12,12 @@ use Rattle.mon_outcome.specs.Emitting.{door_of}
 use Rattle.mon_outcome.specs.Filling.{laid}
 use Rattle.mon_outcome.specs.Shaping.{copied, is_stripped, is_ipv4_class, has_class_ports, rewritten, with_shape, shapes_from, shapes_of}
 use Rattle.mon_literals.specs.Differing.{FitsField, FitsFields}
+use Rattle.mon_outcome.proofs.Classes.{masked-small}
 
 -- a field that is fixed or kept by a test
 chosen : (count : ℕ) (b : Bool) (x y : Option ℕ) → FitsField (count, x) → FitsField (count, y) → FitsField (count, cond b x y)
 chosen count true x y f g = f
 chosen count false x y f g = g
-
-upper : (n : ℕ) → n < 2 ^ 8 → n / 4 * 4 < 2 ^ 8
-upper n lt = omega arith
 
 vid : (n : ℕ) → n % 4096 < 2 ^ 16
 vid n = omega arith
@@ -40,7 +38,7 @@ rewritten-fits c (SetNwSrc address) r a (f0, (f1, (f2, (f3, (f4, (f5, (f6, (f7, 
 rewritten-fits c (SetNwDst address) r a (f0, (f1, (f2, (f3, (f4, (f5, (f6, (f7, (f8, (f9, f)))))))))) =
     (f0, (f1, (f2, (f3, (f4, (f5, (f6, (f7, (f8, (chosen 32 (is_ipv4_class c) (Some address) r.nw_dst a f9, f))))))))))
 rewritten-fits c (SetNwTos tos) r a (f0, (f1, (f2, (f3, (f4, (f5, (f6, f))))))) =
-    (f0, (f1, (f2, (f3, (f4, (f5, (chosen 8 (is_ipv4_class c) (Some (tos / 4 * 4)) r.nw_tos (upper tos a) f6, f)))))))
+    (f0, (f1, (f2, (f3, (f4, (f5, (chosen 8 (is_ipv4_class c) (Some (tos / 4 * 4)) r.nw_tos (masked-small tos a) f6, f)))))))
 rewritten-fits c (SetTpSrc port) r a (f0, (f1, (f2, (f3, (f4, (f5, (f6, (f7, (f8, (f9, (f10, f))))))))))) =
     (f0, (f1, (f2, (f3, (f4, (f5, (f6, (f7, (f8, (f9, (chosen 16 (has_class_ports c) (Some port) r.tp_src a f10, f)))))))))))
 rewritten-fits c (SetTpDst port) r a (f0, (f1, (f2, (f3, (f4, (f5, (f6, (f7, (f8, (f9, (f10, (f11, f)))))))))))) =

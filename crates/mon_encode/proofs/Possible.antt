@@ -1,7 +1,7 @@
 -- What a table can show, rule by rule.
-use Rattle.std.proofs.Common.{◌≡◌, ℕ, ◌<◌, ◌≤◌, Bool, true, false, not, cond, ◌&&◌, ◌||◌, List, [], ◌∷◌, refl, sym, ap, ◌∙◌, ⊎_elim}
+use Rattle.std.proofs.Common.{◌≡◌, ℕ, ◌<◌, ◌≤◌, Bool, true, false, not, ◌&&◌, ◌||◌, List, [], ◌∷◌, refl, sym, ap, ◌∙◌, ⊎_elim}
 use Rattle.std.specs.Prelude.{nat_lt, nat_le}
-use Rattle.std.specs.List.{filter, list_any, list_all}
+use Rattle.std.specs.List.{list_any, list_all}
 use Rattle.std.proofs.lemmas.Bool.{cases_Bool, not-true, false≢true, lt-ltb, le-ltb, le-leb, lt-leb, cases_lt}
 use Rattle.mon_header.specs.declared.header.Header.{Header}
 use Rattle.mon_header.specs.Matching.{matches}
@@ -15,6 +15,7 @@ use Rattle.mon_shows.specs.Separation.{is_miss, is_possible}
 use Rattle.mon_encode.proofs.Truth.{fits, Read, or_yes}
 use Rattle.mon_encode.proofs.Chaining.{is_above}
 use Rattle.mon_encode.proofs.Winners.{miss-there, miss-back}
+use Rattle.mon_shows.proofs.Looking.{any-filter}
 
 -- there is a rule
 abbrev has_any : List Rule → Bool
@@ -44,14 +45,6 @@ not-any : (p : Rule → Bool) (t : List Rule) → not (list_any p t) ≡ list_al
 not-any p [] = refl
 not-any p (r ∷ t) =
     elim (p r) as (λ b. not (b || list_any p t) ≡ (not b && list_all (λ r. not (p r)) t)) [ true ↦ refl | false ↦ not-any p t ]
-
-any-filter : (p q : Rule → Bool) (t : List Rule) → list_any q (filter p t) ≡ list_any (λ r. p r && q r) t
-any-filter p q [] = refl
-any-filter p q (r ∷ t) =
-    elim (p r) as (λ b. list_any q (cond b (r ∷ filter p t) (filter p t)) ≡ ((b && q r) || list_any (λ r. p r && q r) t)) [
-      | true ↦ ap (λ (b : Bool). q r || b) (any-filter p q t)
-      | false ↦ any-filter p q t
-    ]
 
 -- there is a winner exactly where some rule matches
 all-or-any : (h : Header) (t : List Rule) (b : Bool) → InOrder t → list_any (λ r. matches r.matching h) t ≡ b → has_any (winners t h) ≡ b

@@ -24,7 +24,7 @@ use Rattle.mon_outcome.specs.Emitting.{must, may}
 use Rattle.mon_shows.specs.declared.target.Target.{Target}
 use Rattle.mon_shows.specs.Separation.{is_sure, is_possible, taken_back}
 use Rattle.mon_job.specs.Jobs.{updated, ReplacesItsOwn}
-use Rattle.mon_job.proofs.Separating.{back-identity, must-may, sure-possible, edited-elsewhere}
+use Rattle.mon_job.proofs.Separating.{back-identity, must-may, sure-possible, edited-elsewhere, put-edited}
 use Rattle.mon_encode.proofs.Winners.{miss-back}
 
 -- a rule of a table stands at its place
@@ -54,10 +54,6 @@ winner-possible (s ∷ ws) h e r i m = any-has (s ∷ ws) h e r i m
 -- the lone winner of a table
 lone-has : (t : List Rule) (h : Header) (r : Rule) → winners t h ≡ r ∷ [] → Has t r × (wins t h r ≡ true)
 lone-has t h r e = has-filter (wins t h) t r (subst (λ (ws : List Rule). Has ws r) (sym e) (inl refl))
-
-put-edited : (y : Edit) (r : Rule) → IsPut y r → r ≡ edited y
-put-edited (edit.Put s old) r p = p
-put-edited (edit.Cut s) r p = absurd p
 
 module _ (t : List Rule) (x : Edit) (h : Header) (w : Rule) (own : identity_of (edited x) ≡ identity_of w) (there : Has t w) (m : matches w.matching h ≡ true) where
   -- a rule that the edit brings is no higher than the one of its identity

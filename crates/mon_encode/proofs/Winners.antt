@@ -10,15 +10,8 @@ use Rattle.mon_table.specs.Rules.{rank}
 use Rattle.mon_table.specs.Tables.{InOrder}
 use Rattle.mon_table.specs.Winners.{is_highest, wins, winners}
 use Rattle.mon_table.specs.Places.{top_rank, is_at_rank}
-use Rattle.mon_shows.proofs.Looking.{winners-some, winners-none, top-matched, top-passed}
+use Rattle.mon_shows.proofs.Looking.{winners-some, winners-none, top-matched, top-passed, filter-in, filter-out}
 use Rattle.mon_encode.proofs.Truth.{all_lose}
-
--- a filter at its first rule
-filter-in : (p : Rule → Bool) (r : Rule) (t : List Rule) → p r ≡ true → filter p (r ∷ t) ≡ r ∷ filter p t
-filter-in p r t e = rw e refl
-
-filter-out : (p : Rule → Bool) (r : Rule) (t : List Rule) → p r ≡ false → filter p (r ∷ t) ≡ filter p t
-filter-out p r t e = rw e refl
 
 -- what wins of the highest effective priority does so of any that is as high
 all-below : (h : Header) (low high : ℕ) (t : List Rule) → low ≤ high → list_all (λ s. not (matches s.matching h) || nat_le (rank s) low) t ≡ true

@@ -1,6 +1,7 @@
 pub mod Keeping
 pub mod Fitting
 pub mod Packing
+pub mod Made
 pub mod Sorting
 pub mod Twelve
 pub mod Agreeing

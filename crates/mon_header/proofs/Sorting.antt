@@ -7,9 +7,10 @@ use Rattle.mon_header.specs.Wild.{packed}
 use Rattle.mon_header.specs.Matching.{Matching, IsNormal}
 use Rattle.mon_header.specs.Order.{key, is_less, match_before}
 use Rattle.mon_header.proofs.Packing.{packed-same}
+use Rattle.mon_header.proofs.Made.{numbers-of}
 
 -- one place of two lists that are compared
-step-self : (x : ℕ) (rest : Bool) → rest ≡ false → (nat_lt x x || ((x == x) && rest)) ≡ false
+pub step-self : (x : ℕ) (rest : Bool) → rest ≡ false → (nat_lt x x || ((x == x) && rest)) ≡ false
 step-self x rest e = grind (arith, nat_tests)
 
 step-more : (x y z : ℕ) (p q r : Bool) → (p ≡ true → q ≡ true → r ≡ true)
@@ -50,15 +51,6 @@ key-same : (a b : Matching) → packed a.wild ≡ packed b.wild → a.fields ≡
 key-same a b e f p q =
     let w : a.wild ≡ b.wild = packed-same a.wild b.wild p.nw_src_count p.nw_dst_count q.nw_src_count q.nw_dst_count e in
     cc
-
--- a header of its numbers
-of-numbers : (in_port dl_src dl_dst dl_vlan dl_vlan_pcp dl_type nw_tos nw_proto nw_src nw_dst tp_src tp_dst : ℕ) → Header
-of-numbers in_port dl_src dl_dst dl_vlan dl_vlan_pcp dl_type nw_tos nw_proto nw_src nw_dst tp_src tp_dst =
-    record { in_port = in_port; dl_src = dl_src; dl_dst = dl_dst; dl_vlan = dl_vlan; dl_vlan_pcp = dl_vlan_pcp; dl_type = dl_type; nw_tos = nw_tos; nw_proto = nw_proto; nw_src = nw_src; nw_dst = nw_dst; tp_src = tp_src; tp_dst = tp_dst }
-
-numbers-of : (h : Header) → of-numbers h.in_port h.dl_src h.dl_dst h.dl_vlan h.dl_vlan_pcp h.dl_type h.nw_tos h.nw_proto h.nw_src h.nw_dst h.tp_src h.tp_dst ≡ h
-unfolding of-numbers
-numbers-of h = refl
 
 pub numbers-same : (a b : Matching) → key a ≡ key b → IsNormal a → IsNormal b → a ≡ b
 unfolding key

@@ -65,7 +65,7 @@ sure-possible (r ∷ []) h e y = or_left _ _ (must-may r.actions h e y)
 sure-possible (r ∷ s ∷ rest) h e y = absurd (false≢true y)
 
 -- an edit changes nothing for a header that its rule doesn't match
-put-edited : (y : Edit) (r : Rule) → IsPut y r → r ≡ edited y
+pub put-edited : (y : Edit) (r : Rule) → IsPut y r → r ≡ edited y
 put-edited (edit.Put s old) r p = p
 put-edited (edit.Cut s) r p = absurd p
 

@@ -1,5 +1,5 @@
 -- The clauses of a class and a port are true where a probe can have the header.
-use Rattle.std.proofs.Common.{◌≡◌, ℕ, ◌%◌, ◌^◌, ◌<◌, ◌≤◌, Bool, true, false, refl, sym, ap, ◌∙◌, ◌++◌, arith}
+use Rattle.std.proofs.Common.{◌≡◌, ℕ, ◌%◌, ◌^◌, ◌<◌, ◌≤◌, Bool, true, refl, ap, ◌∙◌, ◌++◌, arith}
 use Rattle.std.specs.Prelude.{◌==◌, nat_lt, ◌&&◌, ◌||◌}
 use Rattle.std.specs.List.{list_all}
 use Rattle.std.proofs.lemmas.List.Folds.{list_all-append}
@@ -15,6 +15,7 @@ use Rattle.mon_literals.specs.Bearing.{Bears}
 use Rattle.mon_literals.specs.Conditions.{shared_of, plain_type, no_network_fields, form_of, class_clauses}
 use Rattle.mon_literals.proofs.Fields.{HasFields, fields_borne}
 use Rattle.mon_literals.proofs.Conditions.{met, and_true, all_asked_true, is_number, is_other, is_below_8, is_below_256, is_multiple_of_4, is_one_station, is_open_to_frames, is_at_least_0600}
+use Rattle.std.specs.Cmp.{both_ways}
 
 pair : (a b c d : Bool) → a ≡ c → b ≡ d → (a && b) ≡ (c && d)
 pair a b c d e f = ap (λ (x : Bool). x && b) e ∙ ap (λ (x : Bool). c && x) f
@@ -82,11 +83,6 @@ form_met v h OtherIpv4 f =
     last _ _ (is_number v 248 16 0 h.tp_dst f.tp_dst (omega arith)))))))
 form_met v h Plain f =
     list_all-append (met v) plain_type no_network_fields ∙ pair _ _ _ _ (plain_type_met v h f) (no_network_fields_met v h f)
-
-same_truth : (a b : Bool) → (a ≡ true → b ≡ true) → (b ≡ true → a ≡ true) → a ≡ b
-same_truth true b f g = sym (f refl)
-same_truth false true f g = g refl
-same_truth false false f g = refl
 
 -- six tests hold
 record Six (a b c d e f : Bool) : Type 0 where
@@ -198,4 +194,4 @@ class_true v h view c in_port b i small link =
     all_asked_true v (shared_of view.tag in_port ++ form_of c)
     ∙ list_all-append (met v) (shared_of view.tag in_port) (form_of c)
     ∙ pair _ _ _ _ (shared_met v h view.tag in_port f (omega arith) small) (form_met v h c f)
-    ∙ same_truth _ _ (forth h view c in_port b.fit i.tag_high link) (back h view c in_port)
+    ∙ both_ways _ _ (forth h view c in_port b.fit i.tag_high link) (back h view c in_port)

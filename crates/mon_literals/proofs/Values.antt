@@ -1,17 +1,16 @@
 -- The header that values bear.
-use Rattle.std.proofs.Common.{◌≡◌, ℕ, zero, suc, ◌+◌, ◌<◌, ◌≤◌, ◌^◌, Bool, true, false, List, [], ◌∷◌, ◌++◌, length, take, get_or, refl, sym, ap, ◌∙◌, subst, ⊎_elim, length-append, arith}
+use Rattle.std.proofs.Common.{◌≡◌, ℕ, zero, suc, ◌+◌, ◌<◌, ◌≤◌, Bool, true, false, List, [], ◌∷◌, ◌++◌, length, take, get_or, refl, sym, ap, ◌∙◌, subst, ⊎_elim, length-append, arith}
 use Rattle.std.proofs.Math.Seq.{get_or-append_seam}
-use Rattle.std.proofs.lemmas.Bool.{lt-ltb, cases_lt}
+use Rattle.std.proofs.lemmas.Bool.{cases_lt}
 use Rattle.std.proofs.lemmas.List.{take_more, ext_get_or, get_or_append_left}
 use Rattle.mon_cnf.specs.Truth.{values_of}
 use Rattle.mon_header.specs.declared.header.Header.{Header}
 use Rattle.mon_header.specs.Classes.{fits}
-use Rattle.mon_header.specs.Matching.{InRange}
 use Rattle.mon_header.specs.Places.{header_bits, header_of}
 use Rattle.mon_header.proofs.Classing.{fits-range}
 use Rattle.mon_header.proofs.Spelling.{header-read, header-written, header-long, header-below}
-use Rattle.mon_header.proofs.Twelve.{join}
 use Rattle.mon_literals.specs.Bearing.{Bears, first_values, borne}
+use Rattle.mon_outcome.proofs.Classes.{range-fits}
 
 first_taken : (count : ℕ) (values : List Bool) → count ≤ length values → first_values count (values_of values) ≡ take count values
 unfolding first_values
@@ -48,30 +47,12 @@ first_value (suc count) v place h =
     ∙ ap v top)
     (cases_lt place count)
 
-range_fits : (h : Header) → InRange h → fits h ≡ true
-unfolding fits
-range_fits h r =
-    join _ _ _ _ _ _ _ _ _ _ _ _ (record {
-      in_port = lt-ltb h.in_port (2 ^ 16) r.in_port;
-      dl_src = lt-ltb h.dl_src (2 ^ 48) r.dl_src;
-      dl_dst = lt-ltb h.dl_dst (2 ^ 48) r.dl_dst;
-      dl_vlan = lt-ltb h.dl_vlan (2 ^ 16) r.dl_vlan;
-      dl_vlan_pcp = lt-ltb h.dl_vlan_pcp (2 ^ 8) r.dl_vlan_pcp;
-      dl_type = lt-ltb h.dl_type (2 ^ 16) r.dl_type;
-      nw_tos = lt-ltb h.nw_tos (2 ^ 8) r.nw_tos;
-      nw_proto = lt-ltb h.nw_proto (2 ^ 8) r.nw_proto;
-      nw_src = lt-ltb h.nw_src (2 ^ 32) r.nw_src;
-      nw_dst = lt-ltb h.nw_dst (2 ^ 32) r.nw_dst;
-      tp_src = lt-ltb h.tp_src (2 ^ 16) r.tp_src;
-      tp_dst = lt-ltb h.tp_dst (2 ^ 16) r.tp_dst;
-    })
-
 pub borne_is_borne : (v : ℕ → Bool) → Bears v (borne v)
 unfolding borne
 borne_is_borne v =
     let bits : List Bool = first_values 264 v in
     record {
-      fit = range_fits (header_of bits) (header-below bits);
+      fit = range-fits (header_of bits) (header-below bits);
       each = λ place h.
           sym (ap (λ (bs : List Bool). get_or bs place false) (header-written bits (first_length 264 v)) ∙ first_value 264 v place h);
     }

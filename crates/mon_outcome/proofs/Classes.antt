@@ -21,7 +21,7 @@ use Rattle.mon_outcome.specs.declared.door.Door.TheVariants.{Port, Controller}
 use Rattle.mon_outcome.specs.Emitting.{door_of, Emitted, with_emission, emissions, AllShow}
 use Rattle.mon_outcome.specs.Shaping.{is_ipv4_class, has_class_ports}
 
-range-fits : (h : Header) → InRange h → fits h ≡ true
+pub range-fits : (h : Header) → InRange h → fits h ≡ true
 unfolding fits
 range-fits h r =
     join _ _ _ _ _ _ _ _ _ _ _ _ (record {
@@ -131,7 +131,7 @@ chosen-small : (b : Bool) (x y size : ℕ) → x < size → y < size → (if b t
 chosen-small true x y size p q = p
 chosen-small false x y size p q = q
 
-masked-small : (tos : ℕ) → tos < 2 ^ 8 → tos / 4 * 4 < 2 ^ 8
+pub masked-small : (tos : ℕ) → tos < 2 ^ 8 → tos / 4 * 4 < 2 ^ 8
 masked-small tos h = omega arith
 
 masked-low : (b : Bool) (tos old : ℕ) → (old % 4 == 0) ≡ true → ((if b then tos / 4 * 4 else old) % 4 == 0) ≡ true

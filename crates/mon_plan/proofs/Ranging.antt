@@ -23,14 +23,14 @@ use Rattle.mon_outcome.proofs.Equality.{emission-same}
 use Rattle.mon_certificate.specs.declared.certificate.Certificate.{Certificate}
 use Rattle.mon_certificate.specs.declared.certificate.Certificate.TheVariants.{Probe, Nothing, Overlap}
 use Rattle.mon_certificate_file.specs.CertificateFile.{IsEmissionInRange, IsCertificateInRange}
-use Rattle.mon_certificate_file.proofs.Rows.{all_push}
 use Rattle.mon_shows.specs.declared.target.Target.TheVariants.{Watch}
 use Rattle.mon_shows.specs.Views.{Viewing}
 use Rattle.mon_shows.specs.Separation.{is_sure, separates}
-use Rattle.mon_encode.proofs.Covering.{crafted, separated}
+use Rattle.mon_encode.proofs.Covering.{separated, crafted}
 use Rattle.mon_encode.proofs.Updating.{own-winner}
 use Rattle.mon_solve.specs.Accepting.{IsTrueOf}
 use Rattle.mon_plan.specs.Planning.{watch_of, IsCertificate}
+use Rattle.mon_text.proofs.Growing.{all_push}
 
 -- what actions must emit of a header of a class shows a header of that class
 among-class : (c : Class) (e : Emission) (ms : List Emitted) → AllShow c ms → is_among_whole e ms ≡ true → is_in_class c (shown e) ≡ true

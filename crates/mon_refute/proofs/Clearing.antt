@@ -7,9 +7,10 @@ use Rattle.std.proofs.lemmas.List.Folds.{list_any-append}
 use Rattle.std.proofs.lemmas.Grind.{flat_map-append}
 use Rattle.std.proofs.lemmas.Bool.{or_parts, eq-eqb, ne_eqb, cases_eq, or_left, or_right, both_ways}
 use Rattle.mon_cnf.specs.declared.clause.Lit.{Lit}
-use Rattle.mon_refute.specs.declared.marks.Reading.TheVariants.{Gives, Neither}
+use Rattle.mon_refute.specs.declared.marks.Reading.TheVariants.{Gives}
 use Rattle.mon_refute.specs.Follow.{mentions, hinted, literals_in, named, is_false, rest, reading, reading_of}
 use Rattle.mon_refute.specs.Marks.{Shows, says, AreClear, ClearBut}
+use Rattle.mon_refute.proofs.Readings.{gives_cond}
 
 dropped : {X : Type 0} (xs : List X) (i : ℕ) (d : X) → i < length xs → drop i xs ≡ get_or xs i d ∷ drop (i + 1) xs
 dropped xs i d w = rw add-one (drop-cons xs i d w)
@@ -96,10 +97,6 @@ any_first known xs ls x l false f e = let h : x ≡ l = cc in or_left _ _ (eq-eq
 rest_mentions : (known c ls : List Lit) (l : Lit) → rest known c ≡ l ∷ ls → mentions l.var c ≡ true
 rest_mentions known [] ls l e = cc
 rest_mentions known (x ∷ xs) ls l e = any_first known xs ls x l (is_false known x) (λ f. rest_mentions known xs ls l f) e
-
-gives_cond : (b : Bool) (k l : Lit) → cond b (Gives k) Neither ≡ Gives l → k ≡ l
-gives_cond true k l e = cc
-gives_cond false k l e = cc
 
 first_mentions : (known c r : List Lit) (l : Lit) → rest known c ≡ r → reading known r ≡ Gives l → mentions l.var c ≡ true
 first_mentions known c [] l e g = cc

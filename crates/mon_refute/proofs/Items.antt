@@ -1,11 +1,11 @@
 -- Lists of words that a 0 ends: there is one way to read them.
 use Rattle.std.proofs.Common.{◌≡◌, ◌≢◌, ℕ, ◌+◌, ◌<◌, refl, sym, ap, ◌∙◌, subst, List, [], ◌∷◌, ◌++◌, length, Option, Some, None, arith, append_assoc, length-append}
 use Rattle.std.specs.List.{flat_map, AllByRecursion}
-use Rattle.std.proofs.lemmas.List.{flat_map_more}
 use Rattle.mon_refute.specs.declared.number.Word.{Word}
 use Rattle.mon_text.specs.Numbers.{NoDigit, NoneAt, FoundAt}
 use Rattle.mon_refute.specs.Reading.{word_text, FitsWord, word_item, FitsSome}
 use Rattle.mon_refute.proofs.Words.{word_once, no_space}
+use Rattle.mon_text.proofs.Growing.{all_push, flat_push}
 
 some_is : {Y : Type 0} (x y : Y) → ◌≡◌ {A = Option Y} (Some x) (Some y) → x ≡ y
 some_is x y e = cc
@@ -13,7 +13,7 @@ some_is x y e = cc
 none_some : {Y : Type 0} (y : Y) → ◌≡◌ {A = Option Y} None (Some y) → ⊥
 none_some y e = cc
 
-cons_parts : {Y : Type 0} (x y : Y) (xs ys : List Y) → x ≡ y → xs ≡ ys → x ∷ xs ≡ y ∷ ys
+pub cons_parts : {Y : Type 0} (x y : Y) (xs ys : List Y) → x ≡ y → xs ≡ ys → x ∷ xs ≡ y ∷ ys
 cons_parts x y xs ys e f = cc
 
 -- nothing is read yet, or no digit comes next
@@ -25,10 +25,6 @@ pub behind_push : {Y : Type 0} (xs : List Y) (y : Y) (rest : List ℕ) → NoDig
 behind_push [] y rest n = n
 behind_push (x ∷ xs) y rest n = n
 
-pub all_push : {Y : Type 0} (P : Y → Type 0) (xs : List Y) (y : Y) → AllByRecursion P xs → P y → AllByRecursion P (xs ++ (y ∷ []))
-all_push P [] y a p = (p, tt)
-all_push P (x ∷ xs) y a p = (a.0, all_push P xs y a.1 p)
-
 -- what is read so far, and the rest
 pub record SoFar {Y : Type 0} (text : Y → List ℕ) (Fits : Y → Type 0) (whole : List ℕ) (front : List Y) (rest : List ℕ) : Type 0 where
   pub is : whole ≡ flat_map text front ++ rest
@@ -37,9 +33,6 @@ pub record SoFar {Y : Type 0} (text : Y → List ℕ) (Fits : Y → Type 0) (who
 
 pub so_far_start : {Y : Type 0} (text : Y → List ℕ) (Fits : Y → Type 0) (whole : List ℕ) → SoFar text Fits whole [] whole
 so_far_start text Fits whole = record { is = refl; fit = tt; behind = tt }
-
-pub flat_push : {Y : Type 0} (text : Y → List ℕ) (front : List Y) (y : Y) (after : List ℕ) → flat_map text front ++ (text y ++ after) ≡ flat_map text (front ++ (y ∷ [])) ++ after
-flat_push text front y after = sym (append_assoc (flat_map text front) (text y) after) ∙ ap (λ xs. xs ++ after) (flat_map_more text [] front y)
 
 pub so_far_push : {Y : Type 0} (text : Y → List ℕ) (Fits : Y → Type 0) (whole : List ℕ) (front new : List Y) (rest after : List ℕ) (y : Y) → SoFar text Fits whole front rest
     → Fits y → rest ≡ text y ++ after → NoDigit after → new ≡ front ++ (y ∷ []) → SoFar text Fits whole new after

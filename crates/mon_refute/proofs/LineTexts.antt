@@ -11,13 +11,12 @@ use Rattle.mon_text.specs.Numbers.{NoDigit, NoneAt, FoundAt, FitsNumber}
 use Rattle.mon_refute.specs.Reading.{literal_word, hint_word, OnBad, LineAt, NoLineAt, LinesAt, NoLinesAt, CountAt, NoCountAt, Reads, LogAt, ReadsAt}
 use Rattle.mon_text.proofs.Spelling.{decimal_once}
 use Rattle.mon_refute.proofs.WordKinds.{literal_fits, literal_same, hint_fits, hint_same}
-use Rattle.mon_refute.proofs.Items.{list_once, next, all_push, flat_push}
+use Rattle.mon_refute.proofs.Items.{list_once, next}
+use Rattle.mon_refute.proofs.Words.{tails}
+use Rattle.mon_text.proofs.Growing.{all_push, flat_push}
 
 line_is : (l : LogLine) (r : List ℕ) → line_text l ++ r ≡ 108 ∷ (literals_text l.literals ++ (hints_text l.hints ++ (10 ∷ r)))
 line_is l r = ap (λ xs. 108 ∷ xs) (append_assoc (literals_text l.literals) (hints_text l.hints ++ (10 ∷ [])) r ∙ ap (λ xs. literals_text l.literals ++ xs) (append_assoc (hints_text l.hints) (10 ∷ []) r))
-
-tails : (a b : ℕ) (xs ys : List ℕ) → a ∷ xs ≡ b ∷ ys → xs ≡ ys
-tails a b xs ys e = cc
 
 no_feed : (r : List ℕ) → NoDigit (10 ∷ r)
 no_feed r h = let k : 48 ≤ 10 = h.0 in omega arith

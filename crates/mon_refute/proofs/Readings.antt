@@ -9,11 +9,11 @@ use Rattle.mon_refute.specs.declared.marks.Reading.{Reading}
 use Rattle.mon_refute.specs.declared.marks.Reading.TheVariants.{Contradicts, Gives, Neither}
 use Rattle.mon_refute.specs.Follow.{same, opposite, is_true, is_false, rest, reading, reading_of, named, by_hints}
 
-lits : (x y : ℕ) (p q : Bool) → x ≡ y → p ≡ q → (let l : Lit = record { var = x; positive = p } in l) ≡ record { var = y; positive = q }
-lits x y p q e f = cc
+pub lit_parts : (x y : ℕ) (p q : Bool) → x ≡ y → p ≡ q → (let l : Lit = record { var = x; positive = p } in l) ≡ record { var = y; positive = q }
+lit_parts x y p q e f = cc
 
 pub lit_is : (a b : Lit) → a.var ≡ b.var → a.positive ≡ b.positive → a ≡ b
-lit_is a b e f = lits a.var b.var a.positive b.positive e f
+lit_is a b e f = lit_parts a.var b.var a.positive b.positive e f
 
 pub all_has : (p : Lit → Bool) (c : List Lit) (k : Lit) → list_all p c ≡ true → Has c k → p k ≡ true
 all_has p [] k a h = absurd h
@@ -23,7 +23,7 @@ pub has_all : (p : Lit → Bool) (c : List Lit) → ((k : Lit) → Has c k → p
 has_all p [] f = refl
 has_all p (x ∷ xs) f = and_from _ _ (f x (inl refl)) (has_all p xs (λ k h. f k (inr h)))
 
-same_sign : (a b : Bool) → cond a b (not b) ≡ true → a ≡ b
+pub same_sign : (a b : Bool) → cond a b (not b) ≡ true → a ≡ b
 same_sign true true e = refl
 same_sign true false e = absurd (false≢true e)
 same_sign false true e = absurd (false≢true e)
@@ -101,3 +101,8 @@ opposite_opposite l = lit_is (opposite (opposite l)) l refl (not_not l.positive)
 pub hint_then : (cs : List (List Lit)) (known : List Lit) (h : ℕ) (hs : List ℕ) (r : Reading) → reading_of known (named cs h) ≡ r
     → by_hints cs known (h ∷ hs) ≡ elim r as (λ _. Bool) [ Contradicts ↦ true | Gives l ↦ by_hints cs (l ∷ known) hs | Neither ↦ false ]
 hint_then cs known h hs r e = ap (λ r. elim r as (λ _. Bool) [ Contradicts ↦ true | Gives l ↦ by_hints cs (l ∷ known) hs | Neither ↦ false ]) e
+
+-- a reading that gives a literal
+pub gives_cond : (b : Bool) (k l : Lit) → cond b (Gives k) Neither ≡ Gives l → k ≡ l
+gives_cond true k l e = cc
+gives_cond false k l e = cc

@@ -9,6 +9,7 @@ use Rattle.mon_refute.specs.declared.marks.Reading.{Reading}
 use Rattle.mon_refute.specs.declared.marks.Reading.TheVariants.{Contradicts, Gives, Neither}
 use Rattle.mon_refute.specs.Follow.{same, opposite, is_true, is_false, rest, reading, falsify}
 use Rattle.mon_refute.specs.Marks.{Shows, says, reads, note_with}
+use Rattle.mon_refute.proofs.Readings.{lit_parts, opposite_opposite}
 
 reads_neither : (known ls : List Lit) → reads known Neither ls ≡ Neither
 reads_neither known [] = refl
@@ -59,13 +60,6 @@ opposite_sign true false e = refl
 opposite_sign false true e = refl
 opposite_sign false false e = absurd (false≢true (sym e))
 
-turned_twice : (x : ℕ) (p : Bool) → record { var = x; positive = not (not p) } ≡ (let l : Lit = record { var = x; positive = p } in l)
-turned_twice x true = refl
-turned_twice x false = refl
-
-lit_parts : (x y : ℕ) (p q : Bool) → x ≡ y → p ≡ q → (let l : Lit = record { var = x; positive = p } in l) ≡ record { var = y; positive = q }
-lit_parts x y p q e f = cc
-
 seen_here : (b s x y : Bool) → b ≡ true → (s || x) ≡ y → ((b && s) || x) ≡ y
 seen_here true s x y b e = e
 seen_here false s x y b e = absurd (false≢true b)
@@ -73,9 +67,6 @@ seen_here false s x y b e = absurd (false≢true b)
 seen_there : (b s x y : Bool) → b ≡ false → x ≡ y → ((b && s) || x) ≡ y
 seen_there true s x y b e = absurd (false≢true (sym b))
 seen_there false s x y b e = e
-
-pub opposite_opposite : (l : Lit) → opposite (opposite l) ≡ l
-opposite_opposite l = turned_twice l.var l.positive
 
 at_opposite : (known : List Lit) (l k : Lit) → l.var ≡ k.var → is_false known l ≡ false → cond l.positive k.positive (not k.positive) ≡ false → is_true known k ≡ false
 at_opposite known l k e f s =

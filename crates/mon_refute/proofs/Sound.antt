@@ -11,15 +11,10 @@ use Rattle.mon_refute.specs.declared.marks.Reading.{Reading}
 use Rattle.mon_refute.specs.declared.marks.Reading.TheVariants.{Contradicts, Gives, Neither}
 use Rattle.mon_refute.specs.Follow.{same, opposite, is_true, is_false, rest, reading, reading_of, named, by_hints, falsify, by_start, follows, all_follow, is_empty, ends_empty}
 use Rattle.mon_refute.specs.Law.{AcceptedMeansNone}
+use Rattle.mon_refute.proofs.Readings.{same_sign}
 
 abbrev pub Right : (ℕ → Bool) → List Lit → Type 0
 Right v known = AllByRecursion (λ k. lit_true v k ≡ true) known
-
-pub same_sign : (a b : Bool) → cond a b (not b) ≡ true → a ≡ b
-same_sign true true e = refl
-same_sign true false e = absurd (false≢true e)
-same_sign false true e = absurd (false≢true e)
-same_sign false false e = refl
 
 pub same_lit : (v : ℕ → Bool) (a b : Lit) → same a b ≡ true → lit_true v a ≡ lit_true v b
 same_lit v a b e =

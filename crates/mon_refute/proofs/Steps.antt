@@ -10,6 +10,7 @@ use Rattle.mon_refute.specs.declared.lines.LogLine.{LogLine}
 use Rattle.mon_refute.specs.declared.marks.Reading.{Reading}
 use Rattle.mon_refute.specs.declared.marks.Reading.TheVariants.{Contradicts, Gives, Neither}
 use Rattle.mon_refute.specs.Follow.{is_false, rest, reading, reading_of, named, opposite, by_hints, by_start, falsify, follows, all_follow, ends_empty, is_empty, literals_of}
+use Rattle.mon_refute.proofs.Readings.{hint_then, gives_cond}
 
 pub record Given (n : ℕ) (known : List Lit) (l : Lit) : Type 0 where
   pub inside : l.var < n
@@ -22,10 +23,6 @@ first_of_cond n known xs ls x l false f w g e = let m : x ≡ l = cc in subst (�
 first_of_rest : (n : ℕ) (known c ls : List Lit) (l : Lit) → Within n c → rest known c ≡ l ∷ ls → Given n known l
 first_of_rest n known [] ls l w e = cc
 first_of_rest n known (x ∷ xs) ls l w e = first_of_cond n known (rest known xs) ls x l (is_false known x) refl w.0 (λ f. first_of_rest n known xs ls l w.1 f) e
-
-gives_cond : (b : Bool) (k l : Lit) → cond b (Gives k) Neither ≡ Gives l → k ≡ l
-gives_cond true k l e = cc
-gives_cond false k l e = cc
 
 gives_first : (known r : List Lit) (l : Lit) → reading known r ≡ Gives l → (ls : List Lit) × (r ≡ l ∷ ls)
 gives_first known [] l e = cc
@@ -47,16 +44,12 @@ named_cond false o c e = e
 pub given : (n : ℕ) (cs : List (List Lit)) (known : List Lit) (h : ℕ) (l : Lit) → WithinAll n cs → reading_of known (named cs h) ≡ Gives l → Given n known l
 given n cs known h l w e = of_given n known (named cs h) l (λ c f. within_place n cs (h - 1) c w (named_cond (h == 0) _ c f)) e
 
-pub hint_next : (cs : List (List Lit)) (known : List Lit) (h : ℕ) (hs : List ℕ) (r : Reading) → reading_of known (named cs h) ≡ r
-    → by_hints cs known (h ∷ hs) ≡ elim r as (λ _. Bool) [ Contradicts ↦ true | Gives l ↦ by_hints cs (l ∷ known) hs | Neither ↦ false ]
-hint_next cs known h hs r e = ap (λ r. elim r as (λ _. Bool) [ Contradicts ↦ true | Gives l ↦ by_hints cs (l ∷ known) hs | Neither ↦ false ]) e
-
 -- what the loop over hints does at place i
 pub at_hint : (cs : List (List Lit)) (known : List Lit) (items : List ℕ) (i : ℕ) (r : Reading) → i < length items → reading_of known (named cs (get_or items i 0)) ≡ r
     → by_hints cs known (drop i items) ≡ elim r as (λ _. Bool) [ Contradicts ↦ true | Gives l ↦ by_hints cs (l ∷ known) (drop (i + 1) items) | Neither ↦ false ]
 at_hint cs known items i r w e =
     let s : drop i items ≡ get_or items i 0 ∷ drop (i + 1) items = rw add-one (drop-cons items i 0 w) in
-    ap (by_hints cs known) s ∙ hint_next cs known (get_or items i 0) (drop (i + 1) items) r e
+    ap (by_hints cs known) s ∙ hint_then cs known (get_or items i 0) (drop (i + 1) items) r e
 
 within_or : (cs : List (List Lit)) (hs : List ℕ) (P : Type 0) (b : Bool) (o : Option (List Lit)) → (b ≡ true → by_start cs hs o ≡ true → P) → by_start cs hs (cond b o None) ≡ true → P
 within_or cs hs P true o f e = f refl e

@@ -1,21 +1,16 @@
 -- Literals and hints as words.
-use Rattle.std.proofs.Common.{◌≡◌, ℕ, ◌+◌, ◌<◌, Bool, refl, ap, Option, Some, None, arith}
+use Rattle.std.proofs.Common.{◌≡◌, ℕ, ◌+◌, ◌<◌, refl, ap, Option, Some, None, arith}
 use Rattle.mon_cnf.specs.declared.clause.Lit.{Lit}
 use Rattle.mon_refute.specs.declared.number.Word.{Word}
 use Rattle.mon_refute.specs.Text.{FitsLiteral, FitsHint}
 use Rattle.mon_refute.specs.Reading.{literal_word, hint_word, FitsSome, FitsWord}
+use Rattle.mon_refute.proofs.Readings.{lit_is}
 
 number_of : (v w : Word) → v ≡ w → v.number ≡ w.number
 number_of v w e = ap (λ (x : Word). x.number) e
 
 sign_of : (v w : Word) → v ≡ w → v.positive ≡ w.positive
 sign_of v w e = ap (λ (x : Word). x.positive) e
-
-lit_parts : (x y : ℕ) (p q : Bool) → x ≡ y → p ≡ q → (let l : Lit = record { var = x; positive = p } in l) ≡ record { var = y; positive = q }
-lit_parts x y p q e f = cc
-
-literals_same : (l k : Lit) → l.var ≡ k.var → l.positive ≡ k.positive → l ≡ k
-literals_same l k e f = lit_parts l.var k.var l.positive k.positive e f
 
 pub literal_fits : (x : Option Lit) → FitsSome FitsLiteral x → FitsWord (literal_word x)
 literal_fits None f = omega arith
@@ -25,7 +20,7 @@ pub literal_same : (x y : Option Lit) → FitsSome FitsLiteral x → FitsSome Fi
 literal_same None None f g e = refl
 literal_same None (Some k) f g e = let n : 0 ≡ k.var + 1 = number_of _ _ e in absurd (omega arith)
 literal_same (Some l) None f g e = let n : l.var + 1 ≡ 0 = number_of _ _ e in absurd (omega arith)
-literal_same (Some l) (Some k) f g e = let n : l.var + 1 ≡ k.var + 1 = number_of _ _ e in ap Some (literals_same l k (omega arith) (sign_of _ _ e))
+literal_same (Some l) (Some k) f g e = let n : l.var + 1 ≡ k.var + 1 = number_of _ _ e in ap Some (lit_is l k (omega arith) (sign_of _ _ e))
 
 pub hint_fits : (x : Option ℕ) → FitsSome FitsHint x → FitsWord (hint_word x)
 hint_fits None f = omega arith

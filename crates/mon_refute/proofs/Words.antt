@@ -23,7 +23,7 @@ no_minus h = let k : 48 ≤ 45 = h.0 in omega arith
 pub no_space : IsInRange 48 57 32 → ⊥
 no_space h = let k : 48 ≤ 32 = h.0 in omega arith
 
-tails : (a b : ℕ) (xs ys : List ℕ) → a ∷ xs ≡ b ∷ ys → xs ≡ ys
+pub tails : (a b : ℕ) (xs ys : List ℕ) → a ∷ xs ≡ b ∷ ys → xs ≡ ys
 tails a b xs ys e = cc
 
 word_parts : (a b : Bool) (m n : ℕ) → a ≡ b → m ≡ n → (let w : Word = record { positive = a; number = m } in w) ≡ record { positive = b; number = n }

@@ -1,5 +1,5 @@
 -- Who wins for a header, by going through a table in order.
-use Rattle.std.proofs.Common.{◌≡◌, ℕ, zero, suc, ◌<◌, ◌≤◌, Bool, true, false, not, cond, ◌&&◌, ◌||◌, List, [], ◌∷◌, map, length, get_or, drop, Some, None, Option, refl, sym, ap, subst, ◌∙◌, arith, ⊎_elim, drop-cons}
+use Rattle.std.proofs.Common.{◌≡◌, ℕ, suc, ◌<◌, ◌≤◌, Bool, true, false, not, cond, ◌&&◌, ◌||◌, List, [], ◌∷◌, map, length, get_or, drop, Some, None, Option, refl, sym, ap, subst, ◌∙◌, arith, ⊎_elim, drop-cons}
 use Rattle.std.specs.Prelude.{◌==◌}
 use Rattle.std.specs.List.{filter, list_any, AllByRecursion}
 use Rattle.std.proofs.lemmas.Bool.{cases_Bool, and_left, and_right, and_from, false≢true, eq-eqb, ne_eqb}
@@ -11,7 +11,7 @@ use Rattle.mon_table.specs.Tables.{InOrder}
 use Rattle.mon_table.specs.Winners.{wins, winners}
 use Rattle.mon_table.specs.Places.{top_rank, is_at_rank}
 use Rattle.mon_table.proofs.Identities.{comes_before-falls}
-use Rattle.mon_table.proofs.Listing.{places-win, places-miss}
+use Rattle.mon_table.proofs.Listing.{places-win, places-miss, order-drop}
 use Rattle.mon_table.proofs.Members.{places-shown}
 use Rattle.mon_outcome.specs.declared.emission.Emission.{Emission}
 use Rattle.mon_outcome.specs.Emitting.{must, may}
@@ -21,12 +21,6 @@ use Rattle.mon_shows.specs.Scanning.{any_at, is_sure_in, any_may_at}
 -- the rules from a place on
 pub rest-is : (t : List Rule) (n : ℕ) (r : Rule) → n < length t → r ≡ get_or t n r → drop n t ≡ r ∷ drop (suc n) t
 rest-is t n r lt e = drop-cons t n r lt ∙ ap (λ (s : Rule). s ∷ drop (suc n) t) (sym e)
-
-order-drop : (t : List Rule) (n : ℕ) → InOrder t → InOrder (drop n t)
-order-drop [] zero o = o
-order-drop [] (suc n) o = o
-order-drop (r ∷ t) zero o = o
-order-drop (r ∷ t) (suc n) o = order-drop t n o.1
 
 -- the winners are the rules of the highest effective priority that matches
 pub winners-some : (h : Header) (n : ℕ) (t : List Rule) → InOrder t → top_rank h t ≡ Some n → winners t h ≡ filter (is_at_rank h n) t
@@ -51,10 +45,10 @@ first-at : (h : Header) (r : Rule) → matches r.matching h ≡ true → is_at_r
 first-at h r m = and_from _ _ (eq-eqb (rank r) (rank r) refl) m
 
 -- a filter at its first rule
-filter-in : (p : Rule → Bool) (r : Rule) (t : List Rule) → p r ≡ true → filter p (r ∷ t) ≡ r ∷ filter p t
+pub filter-in : (p : Rule → Bool) (r : Rule) (t : List Rule) → p r ≡ true → filter p (r ∷ t) ≡ r ∷ filter p t
 filter-in p r t e = rw e refl
 
-filter-out : (p : Rule → Bool) (r : Rule) (t : List Rule) → p r ≡ false → filter p (r ∷ t) ≡ filter p t
+pub filter-out : (p : Rule → Bool) (r : Rule) (t : List Rule) → p r ≡ false → filter p (r ∷ t) ≡ filter p t
 filter-out p r t e = rw e refl
 
 -- one winner that must, or none and the miss
@@ -101,7 +95,7 @@ pub sure-is : (h : Header) (e : Emission) (t : List Rule) → InOrder t → is_s
 sure-is h e t order = sure-by h e t (top_rank h t) order refl
 
 -- one winner that may, or none and the miss
-any-filter : (p q : Rule → Bool) (t : List Rule) → list_any q (filter p t) ≡ list_any (λ r. p r && q r) t
+pub any-filter : (p q : Rule → Bool) (t : List Rule) → list_any q (filter p t) ≡ list_any (λ r. p r && q r) t
 any-filter p q [] = refl
 any-filter p q (r ∷ t) =
     elim (p r) as (λ b. list_any q (cond b (r ∷ filter p t) (filter p t)) ≡ ((b && q r) || list_any (λ r. p r && q r) t)) [

@@ -15,6 +15,7 @@ use Rattle.mon_solve.specs.Answers.{HasNone, IsFound, AskedAtLeast}
 use Rattle.mon_solve.specs.declared.found.Found.{Found}
 use Rattle.mon_solve.specs.declared.found.Found.TheVariants as found
 use Rattle.mon_solve.specs.Accepting.{is_refuted, are_refuted, NothingSeparates}
+use Rattle.std.proofs.lemmas.Bool.{and_parts, and_from}
 
 -- each header and emission that separate belong to a case
 abbrev pub AllBelong : Task → Type 0
@@ -34,13 +35,6 @@ all_none j cases i e l none = subst (λ cs. All (HasNone j) cs) (take_all i case
 pub none_more : (j : Task) (cases : List Case) (i : ℕ) (d : Case) → i < length cases → All (HasNone j) (take i cases) → HasNone j (get_or cases i d)
     → All (HasNone j) (take (i + 1) cases)
 none_more j cases i d l none one = All-more (HasNone j) cases i d l none one
-
-both : (a b : Bool) → (a && b) ≡ true → (a ≡ true) × (b ≡ true)
-both true b e = (refl, e)
-both false b e = cc
-
-both_true : (a b : Bool) → a ≡ true → b ≡ true → (a && b) ≡ true
-both_true a b e f = ap (λ x. x && b) e ∙ f
 
 -- what was found in a case is no probe
 pub nothing_found : (j : Task) (c : Case) (f : Found) (log : List LogLine) → f ≡ found.Nothing log → IsFound j c f → HasNone j c
@@ -92,7 +86,7 @@ more_refuted j [] [] c log e f = ap (λ b. b && true) f
 more_refuted j [] (x ∷ xs) c log e f = cc
 more_refuted j (x ∷ xs) [] c log e f = cc
 more_refuted j (x ∷ xs) (y ∷ ys) c log e f =
-    let p = both _ _ e in both_true _ _ p.0 (more_refuted j xs ys c log p.1 f)
+    let p = and_parts _ _ e in and_from _ _ p.0 (more_refuted j xs ys c log p.1 f)
 
 -- a case more is refuted
 pub refuted_more : (j : Task) (cases : List Case) (logs more : List (List LogLine)) (i : ℕ) (d : Case) (f : Found) (log : List LogLine) → i < length cases

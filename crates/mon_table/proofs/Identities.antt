@@ -9,7 +9,7 @@ use Rattle.mon_header.specs.declared.wild.Wildcards.{Wildcards}
 use Rattle.mon_header.specs.Matching.{Matching, IsNormal}
 use Rattle.mon_header.specs.Order.{match_before}
 use Rattle.mon_header.proofs.Same.{same_header-is, same_header-self}
-use Rattle.mon_header.proofs.Sorting.{before-self, before-more, before-neither}
+use Rattle.mon_header.proofs.Sorting.{before-self, before-more, before-neither, step-self}
 use Rattle.mon_table.specs.Rules.{Identity, same_wild, same_match, same_identity, comes_before}
 
 same_wild-is : (a b : Wildcards) → same_wild a b ≡ true → a ≡ b
@@ -81,10 +81,6 @@ same-turned a b e = subst (λ (x : Identity). same_identity x a ≡ true) (same-
 
 pub other-turned : (a b : Identity) → same_identity a b ≡ false → same_identity b a ≡ false
 other-turned a b e = false_from_ne_true _ (λ t. false≢true (sym e ∙ same-turned b a t))
-
--- one place of the order
-step-self : (m : ℕ) (p : Bool) → p ≡ false → (nat_lt m m || ((m == m) && p)) ≡ false
-step-self m p e = grind (arith, nat_tests)
 
 step-more : (m n o : ℕ) (p q r : Bool) → (p ≡ true → q ≡ true → r ≡ true)
     → (nat_lt n m || ((m == n) && p)) ≡ true → (nat_lt o n || ((n == o) && q)) ≡ true → (nat_lt o m || ((m == o) && r)) ≡ true

@@ -3,7 +3,7 @@ use Rattle.std.proofs.Common.{◌≡◌, ℕ, zero, suc, ◌+◌, ◌<◌, ◌�
 use Rattle.std.specs.Prelude.{◌==◌, nat_le}
 use Rattle.std.specs.List.{list_all, AllByRecursion}
 use Rattle.std.proofs.lemmas.List.{append-nil, drop_all}
-use Rattle.std.proofs.lemmas.Bool.{and_parts, and_from, and_left, or_left, or_right, cases_Bool, not_from_false, false≢true, false_from_ne_true, eqb-true, eq-eqb, le-leb, leb-true, ne_eqb}
+use Rattle.std.proofs.lemmas.Bool.{and_parts, and_from, and_left, or_left, or_right, cases_Bool, not_from_false, false≢true, eqb-true, eq-eqb, le-leb, leb-true, ne_eqb}
 use Rattle.mon_list.specs.Has.{Has}
 use Rattle.mon_header.specs.declared.header.Header.{Header}
 use Rattle.mon_header.specs.Matching.{matches}
@@ -13,6 +13,7 @@ use Rattle.mon_table.specs.Tables.{InOrder, places_from, places}
 use Rattle.mon_table.specs.Winners.{is_highest, wins}
 use Rattle.mon_table.specs.Places.{top_rank, is_at_rank}
 use Rattle.mon_table.proofs.Identities.{comes_before-falls}
+use Rattle.std.specs.Cmp.{both_ways}
 
 -- one place more of a loop that lists places
 pub places-push : (test : Rule → Bool) (t : List Rule) (found all : List ℕ) (n : ℕ) (r : Rule) → n < length t → r ≡ get_or t n r → test r ≡ true
@@ -48,7 +49,7 @@ places-end test t found all n le h =
     sym (append-nil found) ∙ step
 
 -- ranks fall
-order-drop : (t : List Rule) (n : ℕ) → InOrder t → InOrder (drop n t)
+pub order-drop : (t : List Rule) (n : ℕ) → InOrder t → InOrder (drop n t)
 order-drop [] zero o = o
 order-drop [] (suc n) o = o
 order-drop (r ∷ t) zero o = o
@@ -160,14 +161,10 @@ swapped false b true f = f refl
 swapped true b false f = refl
 swapped false b false f = refl
 
-same-test : (a b : Bool) → (a ≡ true → b ≡ true) → (b ≡ true → a ≡ true) → a ≡ b
-same-test true b f g = sym (f refl)
-same-test false b f g = sym (false_from_ne_true b (λ e. false≢true (g e)))
-
 wins-at : (h : Header) (n : ℕ) (t : List Rule) → InOrder t → top_rank h t ≡ Some n → (r : Rule) → Has t r → is_at_rank h n r ≡ wins t h r
 wins-at h n t o e r i =
     let high = top-high h n t o e in
-    swapped (rank r == n) (is_highest t h r) (matches r.matching h) (λ m. same-test (rank r == n) (is_highest t h r)
+    swapped (rank r == n) (is_highest t h r) (matches r.matching h) (λ m. both_ways (rank r == n) (is_highest t h r)
     (λ s. highest-at h n t r high (eqb-true (rank r) n s))
     (λ f.
     let above : n ≤ rank r = at-highest h n t r (top-is h n t e) f in

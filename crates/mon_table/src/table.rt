@@ -83,7 +83,7 @@ impl Table {
             let old = mem::replace(&mut self.rules[place], rule);
             return Ok(Some(old));
         }
-        // A place is a `u32`: more rules have no place, long before memory ends.
+        // A place is a `u32`: more rules have no place, long after memory ends.
         if self.rules.len() >= u32::MAX as usize {
             return Err(OutOfMemory);
         }

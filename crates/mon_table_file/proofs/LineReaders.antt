@@ -7,12 +7,12 @@ use Rattle.std.proofs.lemmas.Bool.{and_parts, and_from, leb-true, le-leb, ltb-tr
 use Rattle.std.proofs.lemmas.Option.{none-some, cond_some, same_Some}
 use Rattle.mon_text.specs.Hex.{hex, hex_digit, byte_of, digit_of, AllBytes, AreBytes}
 use Rattle.mon_text.specs.Numbers.{NoDigit}
-use Rattle.mon_text.specs.Parts.{Part, behind, led, ended, both, passing, pair_in, bytes_in, run_in, number_within, datapath_in}
+use Rattle.mon_text.specs.Parts.{Part, behind, led, ended, both, passing, pair_in, bytes_in, run_in, number_within, datapath_in, feed}
 use Rattle.mon_text.proofs.Joining.{IsReader, bound, mapped, pair_is, behind-found, behind-again, reader_led, reader_ended, reader_seen, reader_as, reader_both, reader_within, number_within-found, number_within-again}
 use Rattle.mon_text.proofs.InDigits.{reader_bytes, reader_datapath, run-found, run-again}
 use Rattle.mon_shows.specs.declared.near.Near.{Near}
 use Rattle.of_action.specs.Reading.{actions_of}
-use Rattle.mon_table_file.specs.Lines.{feed, datapath_text, first_line, switch_line, tag_text, tags_line, miss_line, link_line, Row, actions_text, rule_line, AreActions, FitsRow}
+use Rattle.mon_table_file.specs.Lines.{datapath_text, first_line, switch_line, tag_text, tags_line, miss_line, link_line, Row, actions_text, rule_line, AreActions, FitsRow}
 use Rattle.mon_table_file.specs.Reading.{port_in, datapath_word, last_tag, switch_in, miss_in, tag_before, end_or, tags_in, tags_line_in, near_of, link_in, FitsNear, are_actions, run_of, actions_in, front_in, row_of, row_in, Heading, heading_of, head_in, IsTag, FitsTags, FitsHeading, heading_text}
 
 no_digit : IsInRange 48 57 32 → ⊥

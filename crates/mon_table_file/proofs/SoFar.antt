@@ -1,24 +1,18 @@
 -- Lines of one kind, read one after the other.
-use Rattle.std.proofs.Common.{◌≡◌, ℕ, ◌<◌, refl, sym, ap, subst, ◌∙◌, List, [], ◌∷◌, ◌++◌, length, map, Some, None, option_map, arith, append_assoc, length-append}
+use Rattle.std.proofs.Common.{◌≡◌, ℕ, ◌<◌, refl, sym, ap, subst, ◌∙◌, List, [], ◌∷◌, ◌++◌, length, map, Some, None, option_map, arith, length-append}
 use Rattle.std.specs.List.{flat_map, AllByRecursion}
-use Rattle.std.proofs.lemmas.List.{flat_map_more, map-append}
+use Rattle.std.proofs.lemmas.List.{map-append}
 use Rattle.mon_text.specs.Parts.{Part}
 use Rattle.mon_text.proofs.Joining.{IsReader, mapped, pair_is}
 use Rattle.mon_table.specs.declared.rule.Rule.{Rule}
 use Rattle.mon_table_file.specs.Lines.{Row, rule_line, FitsRow, rule_given}
 use Rattle.mon_table_file.specs.Reading.{AreRead, row_in, with_rule}
+use Rattle.mon_text.proofs.Growing.{all_push, flat_push}
 
 -- the lines that were read so far, and the text behind them
 pub record SoFar {X : Type 0} (line : X → List ℕ) (Fits : X → Type 0) (text : List ℕ) (lines : List X) (rest : List ℕ) : Type 0 where
   pub is : text ≡ flat_map line lines ++ rest
   pub fit : AllByRecursion Fits lines
-
-pub all_push : {X : Type 0} (P : X → Type 0) (xs : List X) (x : X) → AllByRecursion P xs → P x → AllByRecursion P (xs ++ x ∷ [])
-all_push P [] x all p = (p, tt)
-all_push P (y ∷ ys) x all p = (all.0, all_push P ys x all.1 p)
-
-flat_push : {X : Type 0} (line : X → List ℕ) (lines : List X) (x : X) (after : List ℕ) → flat_map line lines ++ (line x ++ after) ≡ flat_map line (lines ++ x ∷ []) ++ after
-flat_push line lines x after = sym (append_assoc (flat_map line lines) (line x) after) ∙ ap (λ t. t ++ after) (flat_map_more line [] lines x)
 
 pub nothing_yet : {X : Type 0} (line : X → List ℕ) (Fits : X → Type 0) (text : List ℕ) → SoFar line Fits text [] text
 nothing_yet line Fits text = record { is = refl; fit = tt }

@@ -2,9 +2,8 @@
 use Rattle.std.proofs.Common.{◌≡◌, ℕ, zero, suc, ◌+◌, ◌-◌, ◌<◌, ◌≤◌, refl, sym, ap, ◌∙◌, List, [], ◌∷◌, ◌++◌, Some, None, codes, arith, append_assoc}
 use Rattle.std.specs.Prelude.{option_and_then}
 use Rattle.std.proofs.lemmas.List.{append-nil}
-use Rattle.mon_text.specs.Parts.{Part, behind, led, number_within}
+use Rattle.mon_text.specs.Parts.{Part, behind, led, number_within, feed}
 use Rattle.mon_text.proofs.Pairs.{onto}
-use Rattle.mon_table_file.specs.Lines.{feed}
 use Rattle.mon_table_file.specs.Reading.{tags_in, tag_before, end_or}
 
 onto-nothing : (p : Part (List ℕ)) → onto [] p ≡ p

@@ -8,10 +8,7 @@ use Rattle.mon_table.specs.declared.rule.Rule.{Rule}
 use Rattle.mon_shows.specs.declared.near.Near.{Near}
 use Rattle.of_match.specs.Layout.{match_of}
 use Rattle.of_action.specs.Reading.{actions_of}
-
--- the end of a line
-abbrev pub feed : List ℕ
-feed = 10 ∷ []
+use Rattle.mon_text.specs.Parts.{feed}
 
 -- sixteen digits
 abbrev pub datapath_text : ℕ → List ℕ

@@ -1,7 +1,7 @@
 -- How the lines of a table file are read, part by part.
 use Rattle.std.specs.Prelude.{◌≡◌, ℕ, zero, suc, ◌≤◌, ◌<◌, ◌^◌, Bool, true, not, ◌==◌, nat_lt, nat_le, is_ok, ◌&&◌, if◌then◌else◌, List, [], ◌∷◌, ◌++◌, length, codes, Option, Some, None, option_and_then}
 use Rattle.std.specs.List.{flat_map, AllByRecursion}
-use Rattle.mon_text.specs.Parts.{Part, behind, led, ended, both, seen, passing, bytes_in, run_in, number_within, datapath_in}
+use Rattle.mon_text.specs.Parts.{Part, behind, led, ended, both, seen, passing, bytes_in, run_in, number_within, datapath_in, feed}
 use Rattle.mon_header.specs.declared.action.Action.{Action}
 use Rattle.mon_header.specs.Matching.{Matching}
 use Rattle.mon_table.specs.declared.rule.Rule.{Rule}
@@ -10,7 +10,7 @@ use Rattle.mon_shows.specs.Views.{Viewing, is_in_use}
 use Rattle.of_match.specs.Layout.{match_of}
 use Rattle.of_action.specs.Reading.{actions_of}
 use Rattle.mon_table_file.specs.declared.sections.Head.{Head}
-use Rattle.mon_table_file.specs.Lines.{Row, feed, first_line, switch_line, tags_line, miss_line, actions_given, rule_given}
+use Rattle.mon_table_file.specs.Lines.{Row, first_line, switch_line, tags_line, miss_line, actions_given, rule_given}
 
 -- a port of 1 to 65280 and a space
 abbrev pub port_in : List ℕ → Part ℕ

@@ -6,7 +6,7 @@ use Rattle.std.proofs.lemmas.Bool.{and_parts, leb-true, lt-ltb, le-ltb, cond-tru
 use Rattle.std.proofs.lemmas.Option.{none-some, cond_some, same_Some}
 use Rattle.std.proofs.lemmas.Nat.{from_be_bytes-to_be_bytes_8, be_bytes_8}
 use Rattle.mon_text.specs.Hex.{hex, hex_digit, digit_of, byte_of, joined, AllBytes, AreBytes}
-use Rattle.mon_text.specs.Parts.{Part, pair_in, with_byte, bytes_in, run_in, run_with, datapath_in}
+use Rattle.mon_text.specs.Parts.{Part, pair_in, byte_before, bytes_in, run_in, run_with, datapath_in}
 use Rattle.mon_text.proofs.Decoding.{byte_back}
 use Rattle.mon_text.proofs.Joining.{IsReader, reader_seen, pair_is}
 
@@ -65,7 +65,7 @@ pair_is_of a b x e = joined_is a b x (digit_of a) (digit_of b) refl refl e
 pair_text : (a b x : ℕ) (text : List ℕ) → byte_of a b ≡ Some x → a ∷ b ∷ text ≡ hex_digit (x / 16) ∷ hex_digit (x % 16) ∷ text
 pair_text a b x text e = let p = pair_is_of a b x e in let h = p.high in let l = p.low in cc
 
-with_some : (o : Option ℕ) (p : Part (List ℕ)) (bs rest : List ℕ) → with_byte o p ≡ Some (bs, rest) → (x : ℕ) × (ys : List ℕ) × (o ≡ Some x) × (p ≡ Some (ys, rest)) × (x ∷ ys ≡ bs)
+with_some : (o : Option ℕ) (p : Part (List ℕ)) (bs rest : List ℕ) → byte_before o p ≡ Some (bs, rest) → (x : ℕ) × (ys : List ℕ) × (o ≡ Some x) × (p ≡ Some (ys, rest)) × (x ∷ ys ≡ bs)
 with_some None p bs rest e = absurd (none-some (bs, rest) e)
 with_some (Some x) None bs rest e = absurd (none-some (bs, rest) e)
 with_some (Some x) (Some q) bs rest e =
@@ -96,8 +96,8 @@ bytes-again zero (x ∷ xs) rest are = absurd (let e : suc (length xs) ≡ 0 = a
 bytes-again (suc n) [] rest are = absurd (let e : 0 ≡ suc n = are.0 in omega arith)
 bytes-again (suc n) (x ∷ xs) rest are =
     let few : length xs ≡ n = (let e : suc (length xs) ≡ suc n = are.0 in omega arith) in
-    ap (λ (o : Option ℕ). with_byte o (bytes_in n (hex xs ++ rest))) (byte_back x are.1.0)
-    ∙ ap (with_byte (Some x)) (bytes-again n xs rest (few, are.1.1))
+    ap (λ (o : Option ℕ). byte_before o (bytes_in n (hex xs ++ rest))) (byte_back x are.1.0)
+    ∙ ap (byte_before (Some x)) (bytes-again n xs rest (few, are.1.1))
 
 pub reader_bytes : (n : ℕ) → IsReader hex (AreBytes n) (bytes_in n)
 reader_bytes n = record { found = bytes-found n; again = bytes-again n }

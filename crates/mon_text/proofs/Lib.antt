@@ -1,6 +1,7 @@
 pub mod Ascii
 pub mod Decoding
 pub mod Fronts
+pub mod Growing
 pub mod InDigits
 pub mod Joining
 pub mod Pairs

@@ -1,7 +1,7 @@
 -- The table of digits.
 use Rattle.std.proofs.Common.{◌≡◌, ℕ, zero, suc, ◌+◌, ◌<◌, Bool, true, false, List, [], ◌∷◌, length, Option, Some, None, refl, sym, ap, subst, ◌∙◌, arith, add-zero}
 use Rattle.std.specs.Prelude.{eqb, ◌&&◌, slice_index}
-use Rattle.std.proofs.lemmas.Bool.{eqb-true}
+use Rattle.std.proofs.lemmas.Bool.{eqb-true, and_parts}
 use Rattle.mon_text.specs.declared.hexadecimal.TheConstants.{VALUES}
 use Rattle.mon_text.specs.Hex.{digit_of, digit_in}
 
@@ -24,21 +24,13 @@ same_is None (Some b) is = absurd (true≢false (sym is))
 same_is (Some a) None is = absurd (true≢false (sym is))
 same_is (Some a) (Some b) is = ap Some (eqb-true a b is)
 
-and_left : (a b : Bool) → (a && b) ≡ true → a ≡ true
-and_left true b is = refl
-and_left false b is = is
-
-and_right : (a b : Bool) → (a && b) ≡ true → b ≡ true
-and_right true b is = is
-and_right false b is = absurd (true≢false (sym is))
-
 same_at : (c : ℕ) (values : List ℕ) (n : ℕ) → all_same c values ≡ true → n < length values → digit_of (c + n) ≡ digit_in (slice_index values n)
 same_at c [] n all within = absurd (let f : ⊥ = omega arith in f)
 same_at c (value ∷ values) zero all within =
-    ap digit_of (add-zero c) ∙ same_is (digit_of c) (digit_in value) (and_left (same (digit_of c) (digit_in value)) (all_same (suc c) values) all)
+    ap digit_of (add-zero c) ∙ same_is (digit_of c) (digit_in value) (and_parts (same (digit_of c) (digit_in value)) (all_same (suc c) values) all).0
 same_at c (value ∷ values) (suc n) all within =
     let moved : suc c + n ≡ c + suc n = omega arith in
-    ap digit_of (sym moved) ∙ same_at (suc c) values n (and_right (same (digit_of c) (digit_in value)) (all_same (suc c) values) all) (omega arith)
+    ap digit_of (sym moved) ∙ same_at (suc c) values n (and_parts (same (digit_of c) (digit_in value)) (all_same (suc c) values) all).1 (omega arith)
 
 values_are : all_same 0 VALUES ≡ true
 unfolding digit_of

@@ -5,6 +5,10 @@ use Rattle.std.specs.Int.{w64, from_be_bytes}
 use Rattle.mon_text.specs.Hex.{byte_of}
 use Rattle.mon_text.specs.Numbers.{number_in}
 
+-- the end of a line
+abbrev pub feed : List ℕ
+feed = 10 ∷ []
+
 abbrev pub Part : Type 0 → Type 0
 Part X = Option (X × List ℕ)
 
@@ -38,17 +42,18 @@ pair_in [] = None
 pair_in (a ∷ []) = None
 pair_in (a ∷ b ∷ text) = option_map (λ byte. (byte, text)) (byte_of a b)
 
-abbrev pub with_byte : Option ℕ → Part (List ℕ) → Part (List ℕ)
-with_byte None part = None
-with_byte (Some byte) None = None
-with_byte (Some byte) (Some p) = Some (byte ∷ p.0, p.1)
+-- a byte, and then those that the part reads
+abbrev pub byte_before : Option ℕ → Part (List ℕ) → Part (List ℕ)
+byte_before None part = None
+byte_before (Some byte) None = None
+byte_before (Some byte) (Some p) = Some (byte ∷ p.0, p.1)
 
 -- so many bytes in pairs of digits
 abbrev pub bytes_in : ℕ → List ℕ → Part (List ℕ)
 bytes_in zero text = Some ([], text)
 bytes_in (suc n) [] = None
 bytes_in (suc n) (a ∷ []) = None
-bytes_in (suc n) (a ∷ b ∷ text) = with_byte (byte_of a b) (bytes_in n text)
+bytes_in (suc n) (a ∷ b ∷ text) = byte_before (byte_of a b) (bytes_in n text)
 
 abbrev pub run_with : Option ℕ → List ℕ → List ℕ × List ℕ → List ℕ × List ℕ
 run_with None text run = ([], text)

@@ -5,7 +5,6 @@
 
 ghost use Rattle.std.specs.Prelude.{◌≡◌, ◌<◌, ◌^◌, ◌∷◌, [], length, IfOk, OnOk, OnErr};
 ghost use Rattle.mon_trace.specs.Outputs.{lines_text, IsPlaceIn};
-ghost use Rattle.of_frame.specs.Header.{IsFrame};
 ghost use Rattle.mon_trace.specs.Run.{line_of};
 
 use crate::printing::{push_end, push_frame, push_head};
@@ -58,7 +57,7 @@ impl Model for Outputs {
 
 /// How many bytes a frame has.
 fn size_of(frame: &[u8]) -> u16
-    requires { IsFrame frame.now }
+    requires { length frame.now < 65536 }
     ensures { result ≡ length frame.now }
 {
     frame.len() as u16

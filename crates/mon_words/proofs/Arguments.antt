@@ -12,8 +12,9 @@ use Rattle.mon_words.specs.declared.reading.Step.{Step}
 use Rattle.mon_words.specs.Options.{option_word, Takes}
 use Rattle.mon_words.specs.Words.{is_name, SpellsOne, SpellsEach, SpellsAll}
 use Rattle.mon_words.specs.Reading.{takes, kind_of, number_of, parts_of, joined_of, only, kind_step, option_step, onto, after_step, arguments_of}
-use Rattle.mon_words.proofs.Numbers.{by_cases, both_true, is_at_most, takes_is, number_found, number_is}
+use Rattle.mon_words.proofs.Numbers.{by_cases, is_at_most, takes_is, number_found, number_is}
 use Rattle.mon_words.proofs.Parts.{parts_join}
+use Rattle.std.proofs.lemmas.Bool.{and_from}
 
 -- what follows, read from the words that are left
 abbrev rest_of : List (List ℕ) → State → Option (List Argument)
@@ -39,7 +40,7 @@ onto_is front (Some more) all e = (more, refl, some_is _ _ e)
 -- words that spell are read
 
 number_taken : (kind : Kind) (n : ℕ) → Takes kind n → number_of kind (decimal n) ≡ Some n
-number_taken kind n t = number_found kind n (decimal n) (both_true _ _ (is_at_most _ _ t.0) (is_at_most _ _ t.1)) refl
+number_taken kind n t = number_found kind n (decimal n) (and_from _ _ (is_at_most _ _ t.0) (is_at_most _ _ t.1)) refl
 
 apart_read : (kind : Kind) (n : ℕ) (words : List (List ℕ)) → number_of kind (decimal n) ≡ Some n
     → arguments_of state.Arguments (option_word kind ∷ decimal n ∷ words) ≡ onto (Number kind n ∷ []) (arguments_of state.Arguments words)
@@ -110,10 +111,10 @@ is_text : (xs ys : List ℕ) → bytes_eq xs ys ≡ true → xs ≡ ys
 is_text xs ys e = (bytes_eq-Decides xs ys).0 e
 
 -- the value of a choice
-kept : {A : Type 0} (b : Bool) (x y : A) → b ≡ false → (if b then x else y) ≡ y
+pub kept : {A : Type 0} (b : Bool) (x y : A) → b ≡ false → (if b then x else y) ≡ y
 kept b x y e = ap (λ c. if c then x else y) e
 
-chosen : {A : Type 0} (b : Bool) (x y : A) → b ≡ true → (if b then x else y) ≡ x
+pub chosen : {A : Type 0} (b : Bool) (x y : A) → b ≡ true → (if b then x else y) ≡ x
 chosen b x y e = ap (λ c. if c then x else y) e
 
 one_of : (a b : Kind) → Some a ≡ Some b → a ≡ b

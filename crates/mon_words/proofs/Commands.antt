@@ -1,5 +1,5 @@
 -- The words that spell a command are those that are read as it.
-use Rattle.std.proofs.Common.{◌≡◌, ℕ, Bool, true, false, if◌then◌else◌, refl, sym, ap, ◌∙◌, subst, List, [], ◌∷◌, ◌++◌, Option, Some, None, Result, Ok, Err, IfOk, option_map, option_and_then, codes, zero, suc}
+use Rattle.std.proofs.Common.{◌≡◌, ℕ, Bool, true, false, refl, sym, ap, ◌∙◌, subst, List, [], ◌∷◌, ◌++◌, Option, Some, None, Result, Ok, Err, IfOk, option_map, option_and_then, codes, zero, suc}
 use Rattle.std.specs.Str.{bytes_eq}
 use Rattle.std.proofs.lemmas.Slice.Eq.{bytes_eq-Decides}
 use Rattle.mon_words.specs.declared.argument.Kind.TheVariants.{Workers, Generate, Seed}
@@ -16,7 +16,7 @@ use Rattle.mon_words.specs.declared.reading.State.TheVariants as state
 use Rattle.mon_words.specs.Words.{names_in, certificates_in, given_in, source_of, workers_of, asked_of, AsksPlan, AsksCheck, SpellsAll, Spells}
 use Rattle.mon_words.specs.Reading.{Reads, arguments_of, last_of, plan_from, plan_of, check_from, check_of, replay_of, command_of}
 use Rattle.mon_words.proofs.Numbers.{by_cases}
-use Rattle.mon_words.proofs.Arguments.{all_read, all_spelled}
+use Rattle.mon_words.proofs.Arguments.{all_read, all_spelled, chosen, kept}
 
 -- the command that words spell is read
 
@@ -131,12 +131,6 @@ read_from rest c of e = from (arguments_of state.Arguments rest) refl e
 
 first_word : (word : List ℕ) (rest : List (List ℕ)) (text : List ℕ) → bytes_eq word text ≡ true → word ∷ rest ≡ text ∷ rest
 first_word word rest text t = ap (λ w. w ∷ rest) ((bytes_eq-Decides word text).0 t)
-
-chosen : {A : Type 0} (b : Bool) (x y : A) → b ≡ true → (if b then x else y) ≡ x
-chosen b x y e = ap (λ c. if c then x else y) e
-
-kept : {A : Type 0} (b : Bool) (x y : A) → b ≡ false → (if b then x else y) ≡ y
-kept b x y e = ap (λ c. if c then x else y) e
 
 pub command_spelled : (words : List (List ℕ)) (c : Command) → command_of words ≡ Some c → Spells c words
 command_spelled [] c e = cc

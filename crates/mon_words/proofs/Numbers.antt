@@ -10,17 +10,11 @@ use Rattle.mon_words.specs.declared.argument.Kind.{Kind}
 use Rattle.mon_words.specs.declared.argument.Kind.TheVariants.{Workers, Generate, Seed}
 use Rattle.mon_words.specs.Options.{least, most}
 use Rattle.mon_words.specs.Reading.{takes, number_where, number_of}
+use Rattle.std.proofs.lemmas.Bool.{and_parts, and_from}
 
 pub by_cases : {P : Type 0} (b : Bool) → (b ≡ true → P) → (b ≡ false → P) → P
 by_cases true t f = t refl
 by_cases false t f = f refl
-
-pub both : (a b : Bool) → (a && b) ≡ true → (a ≡ true) × (b ≡ true)
-both true b e = (refl, e)
-both false b e = cc
-
-pub both_true : (a b : Bool) → a ≡ true → b ≡ true → (a && b) ≡ true
-both_true a b e f = ap (λ x. x && b) e ∙ f
 
 at_most : (a b : ℕ) → nat_le a b ≡ true → a ≤ b
 at_most a b e = grind (arith, leb_tells a b)
@@ -29,7 +23,7 @@ pub is_at_most : (a b : ℕ) → a ≤ b → nat_le a b ≡ true
 is_at_most a b e = grind (arith, leb_tells a b)
 
 pub takes_is : (kind : Kind) (n : ℕ) → takes kind n ≡ true → (least kind ≤ n) × (n ≤ most kind)
-takes_is kind n e = let p = both _ _ e in (at_most _ _ p.0, at_most _ _ p.1)
+takes_is kind n e = let p = and_parts _ _ e in (at_most _ _ p.0, at_most _ _ p.1)
 
 below : (kind : Kind) (n : ℕ) → n ≤ most kind → n < 2 ^ 32
 below Workers n h = omega arith
@@ -41,10 +35,10 @@ takes_below kind n e = below kind n (takes_is kind n e).1
 
 -- what it means that the number is found
 pub tested : (kind : Kind) (n : ℕ) (text : List ℕ) → (takes kind n && bytes_eq (decimal n) text) ≡ true → (takes kind n ≡ true) × (text ≡ decimal n)
-tested kind n text e = let p = both _ _ e in (p.0, sym ((bytes_eq-Decides (decimal n) text).0 p.1))
+tested kind n text e = let p = and_parts _ _ e in (p.0, sym ((bytes_eq-Decides (decimal n) text).0 p.1))
 
 test_true : (kind : Kind) (n : ℕ) (text : List ℕ) → takes kind n ≡ true → text ≡ decimal n → (takes kind n && bytes_eq (decimal n) text) ≡ true
-test_true kind n text t e = both_true _ _ t ((bytes_eq-Decides (decimal n) text).1 (sym e))
+test_true kind n text t e = and_from _ _ t ((bytes_eq-Decides (decimal n) text).1 (sym e))
 
 pub number_found : (kind : Kind) (n : ℕ) (text : List ℕ) → takes kind n ≡ true → text ≡ decimal n → number_of kind text ≡ Some n
 number_found kind n text t e =

@@ -3,9 +3,10 @@ use Rattle.std.proofs.Common.{◌≡◌, ℕ, zero, suc, ◌+◌, ◌-◌, ◌<�
 use Rattle.std.proofs.lemmas.List.{take-append-drop, take-append-le, take-take, length-take, length-drop}
 use Rattle.mon_header.specs.declared.action.Action.{Action}
 use Rattle.of_action.specs.Reading.{len_of, is_faulty, IsAction, action_of, before, actions_from, actions_of, IsFirstFault}
-use Rattle.of_action.proofs.Front.{front, number_at-take}
-use Rattle.of_action.proofs.Loop.{onto}
+use Rattle.of_action.proofs.Front.{front}
+use Rattle.of_action.proofs.Loop.{onto, faulty}
 use Rattle.of_action.proofs.RoundTrip.{whole_not_faulty}
+use Rattle.mon_fields.proofs.Within.{number_at-take}
 
 -- bytes that begin with the same whole action
 begins_alike : (bytes others : List ℕ) → is_faulty bytes ≡ false → take (len_of bytes) others ≡ take (len_of bytes) bytes
@@ -147,10 +148,6 @@ is_first bytes place e =
       whole = ap (λ (n : ℕ). actions_of (take n bytes)) (sym there) ∙ f.whole;
     }
 
-faulty_front : (place : ℕ) (bytes : List ℕ) → 0 < length bytes → is_faulty bytes ≡ true → actions_from place 0 bytes ≡ Err place
-faulty_front place [] lt e = absurd (omega arith)
-faulty_front place (byte ∷ bytes) lt e = rw e refl
-
 pub only_first : (bytes : List ℕ) (place : ℕ) → IsFirstFault bytes place → actions_of bytes ≡ Err place
 only_first bytes place f =
     let parts : take place bytes ++ drop place bytes ≡ bytes = take-append-drop place bytes in
@@ -158,5 +155,5 @@ only_first bytes place f =
     let some : 0 < length (drop place bytes) = omega (arith, length-drop place bytes, f.within) in
     ap actions_of (sym parts)
     ∙ joined 0 0 (take place bytes) (drop place bytes) f.actions (omega arith) f.whole
-    ∙ ap (onto f.actions) (faulty_front (0 + length (take place bytes)) (drop place bytes) some f.faulty)
+    ∙ ap (onto f.actions) (faulty (0 + length (take place bytes)) (drop place bytes) some f.faulty)
     ∙ (let there : 0 + length (take place bytes) ≡ place = omega (arith, long) in ap (λ (p : ℕ). Err p) there)

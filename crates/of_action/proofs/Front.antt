@@ -1,20 +1,10 @@
 -- What a front that is not faulty says of the action there.
-use Rattle.std.proofs.Common.{◌≡◌, ◌≢◌, ℕ, ◌+◌, ◌-◌, ◌%◌, ◌≤◌, Bool, true, false, not, ◌||◌, List, length, take, drop, refl, sym, ap, ◌∙◌, arith}
+use Rattle.std.proofs.Common.{◌≡◌, ◌≢◌, ℕ, ◌-◌, ◌%◌, ◌≤◌, Bool, true, false, not, ◌||◌, List, length, take, refl, sym, ◌∙◌, arith}
 use Rattle.std.specs.Prelude.{nat_lt, ◌==◌}
 use Rattle.std.proofs.lemmas.Bool.{ltb-false, eqb-false, eqb-true, not-false}
-use Rattle.std.proofs.lemmas.List.{drop-take, length-take}
-use Rattle.byteorder.specs.Endian.{big_number}
-use Rattle.byteorder.specs.Numbers.{big_from-take}
-use Rattle.mon_fields.specs.Fields.{number_at}
+use Rattle.std.proofs.lemmas.List.{length-take}
 use Rattle.of_action.specs.Reading.{kind_of, len_of, has_its_length, is_faulty, IsAction}
-
--- a number reads no byte past its end
-pub number_at-take : (k place n : ℕ) (bytes : List ℕ) → place + k ≤ n → number_at k place (take n bytes) ≡ number_at k place bytes
-number_at-take k place n bytes le =
-    let parts : n ≡ place + (n - place) = omega arith in
-    ap (λ (m : ℕ). big_number k (drop place (take m bytes))) parts
-    ∙ ap (big_number k) (drop-take place (n - place) bytes)
-    ∙ big_from-take 0 k (n - place) (drop place bytes) (omega arith)
+use Rattle.mon_fields.proofs.Within.{number_at-take}
 
 both_false : (a b : Bool) → (a || b) ≡ false → (a ≡ false) × (b ≡ false)
 both_false false false e = (refl, refl)

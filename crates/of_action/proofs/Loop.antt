@@ -53,7 +53,7 @@ goes_on actions new action place len rest bytes read left faulty n a pushed told
     ∙ told
 
 -- a faulty front is where the reading ends
-faulty : (place : ℕ) (bytes : List ℕ) → 0 < length bytes → is_faulty bytes ≡ true → actions_from place 0 bytes ≡ Err place
+pub faulty : (place : ℕ) (bytes : List ℕ) → 0 < length bytes → is_faulty bytes ≡ true → actions_from place 0 bytes ≡ Err place
 faulty place [] lt e = absurd (omega arith)
 faulty place (byte ∷ bytes) lt e = rw e refl
 

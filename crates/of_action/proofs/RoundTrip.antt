@@ -1,5 +1,5 @@
 -- What is spelled is read back.
-use Rattle.std.proofs.Common.{◌≡◌, ℕ, ◌+◌, ◌%◌, ◌≤◌, true, false, not, ◌||◌, List, [], ◌∷◌, ◌++◌, length, take, drop, Ok, refl, sym, ap, ◌∙◌, arith}
+use Rattle.std.proofs.Common.{◌≡◌, ℕ, ◌+◌, ◌%◌, ◌≤◌, true, false, not, ◌||◌, List, [], ◌∷◌, ◌++◌, length, take, drop, Ok, refl, ap, ◌∙◌, arith}
 use Rattle.std.specs.Prelude.{nat_lt, ◌==◌}
 use Rattle.std.proofs.lemmas.Bool.{lt-ltb, le-ltb, ne_eqb}
 use Rattle.std.proofs.lemmas.List.{take_at, drop_at, length-append}
@@ -10,15 +10,9 @@ use Rattle.mon_header.specs.declared.action.Action.TheVariants.{Output, SetVlanV
 use Rattle.mon_header.specs.Raw.{IsRawAction}
 use Rattle.mon_header.specs.Actions.{FitsAction, AllFit}
 use Rattle.of_action.specs.Layout.{spelled_action, spelled}
-use Rattle.mon_fields.specs.Fields.{number_at}
 use Rattle.of_action.specs.Reading.{kind_of, len_of, has_its_length, is_faulty, IsAction, known_action, action_of, before, actions_from, actions_of}
-use Rattle.of_action.proofs.Front.{number_at-take}
+use Rattle.mon_fields.proofs.Within.{number_at-front}
 use Rattle.of_action.proofs.Loop.{first_read}
-
--- a number in the front of some bytes
-number_at-front : (k place : ℕ) (bytes rest : List ℕ) → place + k ≤ length bytes → number_at k place (bytes ++ rest) ≡ number_at k place bytes
-number_at-front k place bytes rest le =
-    sym (number_at-take k place (length bytes) (bytes ++ rest) le) ∙ ap (number_at k place) (take_at bytes rest (length bytes) refl)
 
 not_faulty : (all len kind : ℕ) → 8 ≤ len → len ≤ all → len % 8 ≡ 0 → has_its_length kind len ≡ true
     → (nat_lt all 4 || ((len == 0) || (not (len % 8 == 0) || (nat_lt all len || not (has_its_length kind len))))) ≡ false

@@ -9,6 +9,7 @@ use Rattle.std.proofs.lemmas.Bool.Decides.{eqb_tells}
 use Rattle.std.specs.Option.{option_to_list, is_some}
 use Rattle.of_frame.specs.declared.fault.FrameFault.{FrameFault}
 use Rattle.of_frame.specs.declared.fault.FrameFault.TheVariants.{BadLength, BadVersion}
+use Rattle.mon_fields.proofs.Within.{number_at-take, number_at-front}
 use Rattle.of_frame.specs.Header.{length_field, IsFrame}
 use Rattle.of_frame.specs.Cut.{Pending, IsPending, IsWholeAt, nothing_yet, header_fault, completed, grown, cut, cut_pieces}
 use Rattle.of_frame.proofs.Pieces.{with_front, cut-append, regroup}
@@ -25,7 +26,7 @@ pub ne-eqb : (a b : ℕ) → a ≢ b → eqb a b ≡ false
 ne-eqb a b ne = elim (eqb_tells a b) as (λ _. eqb a b ≡ false) [ inl same ↦ absurd (ne same.1) | inr off ↦ off.0 ]
 
 pub field-append : (a b : List ℕ) → 8 ≤ length a → length_field (a ++ b) ≡ length_field a
-field-append a b le = rw (get_or_append_left a b 0 2 (omega (arith, le)), get_or_append_left a b 0 3 (omega (arith, le))) refl
+field-append a b le = number_at-front 2 2 a b (omega (arith, le))
 
 pub fault-append : (a b : List ℕ) → 8 ≤ length a → header_fault (a ++ b) ≡ header_fault a
 unfolding header_fault
@@ -33,8 +34,7 @@ fault-append a b le =
     rw (
       get_or_append_left a b 0 0 (omega (arith, le)),
       get_or_append_left a b 0 1 (omega (arith, le)),
-      get_or_append_left a b 0 2 (omega (arith, le)),
-      get_or_append_left a b 0 3 (omega (arith, le)),
+      field-append a b le,
     ) refl
 
 pub grown-short : (bs : List ℕ) → length bs < 8 → grown bs ≡ (begun bs, None)
@@ -142,8 +142,7 @@ within p bs is open_yet header frame long sound =
 
 -- the first n bytes of a piece that begins with a whole frame
 pub field-take : (n : ℕ) (bs : List ℕ) → 8 ≤ n → n ≤ length bs → length_field (take n bs) ≡ length_field bs
-field-take n bs le within_bs =
-    sym (field-append (take n bs) (drop n bs) (omega (arith, le, length-take-le n bs within_bs))) ∙ ap length_field (take-append-drop n bs)
+field-take n bs le within_bs = number_at-take 2 2 n bs (omega (arith, le))
 
 pub fault-take : (n : ℕ) (bs : List ℕ) → 8 ≤ n → n ≤ length bs → header_fault (take n bs) ≡ header_fault bs
 fault-take n bs le within_bs =

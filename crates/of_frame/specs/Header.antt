@@ -1,10 +1,11 @@
 -- The eight bytes that begin a frame (OpenFlow 1.0.0, header): version, type, length, xid.
-use Rattle.std.specs.Prelude.{◌≡◌, ℕ, ◌+◌, ◌*◌, ◌≤◌, List, ◌∷◌, ◌++◌, length, drop, slice_index}
-use Rattle.byteorder.specs.Endian.{big_number, big_bytes}
+use Rattle.std.specs.Prelude.{◌≡◌, ℕ, ◌+◌, ◌≤◌, List, ◌∷◌, ◌++◌, length, slice_index}
+use Rattle.byteorder.specs.Endian.{big_bytes}
+use Rattle.mon_fields.specs.Fields.{number_at}
 
 -- the length that a header names
 abbrev pub length_field : List ℕ → ℕ
-length_field bytes = 256 * slice_index bytes 2 + slice_index bytes 3
+length_field bytes = number_at 2 2 bytes
 
 -- eight bytes or more, as many as the header says
 pub record IsFrame (bytes : List ℕ) : Type 0 where
@@ -15,7 +16,7 @@ abbrev pub kind_of : List ℕ → ℕ
 kind_of bytes = slice_index bytes 1
 
 abbrev pub xid_of : List ℕ → ℕ
-xid_of bytes = big_number 4 (drop 4 bytes)
+xid_of bytes = number_at 4 4 bytes
 
 -- a frame of version 1 with this type, xid and body
 abbrev pub made : ℕ → ℕ → List ℕ → List ℕ

@@ -6,6 +6,7 @@ ghost use Rattle.of_frame.specs.Cut.{header_fault};
 
 use crate::fault::FrameFault;
 use byteorder::{BigEndian, ByteOrder};
+use mon_fields::{u16_at, u32_at};
 use mon_list::OutOfMemory;
 use std::alloc::Global;
 use std::marker::Model;
@@ -52,8 +53,9 @@ impl Frame {
     pub fn bytes(&self) -> &[u8]
         ensures value { result.now ≡ self.now }
         ensures frame { IsFrame self.now }
+        ensures small { length result.now < 65536 }
     {
-        &self.bytes
+        frame_bytes(&self.bytes)
     }
 
     /// The type of the message.
@@ -67,7 +69,7 @@ impl Frame {
     pub fn xid(&self) -> u32
         ensures { result ≡ xid_of self.now }
     {
-        BigEndian::read_u32(&self.bytes[4..])
+        u32_at(&self.bytes, 4)
     }
 
     /// The same frame once more.
@@ -79,13 +81,22 @@ impl Frame {
     }
 }
 
+/// The bytes of a frame, which are fewer than 2^16, since the length field has 16 bits.
+fn frame_bytes(bytes: &[u8]) -> &[u8]
+    requires { IsFrame bytes.now }
+    ensures value { result.now ≡ bytes.now }
+    ensures small { length result.now < 65536 }
+{
+    bytes
+}
+
 /// The length that a header names.
 pub(crate) fn length_of(bytes: &[u8]) -> usize
     requires { 8 ≤ length bytes.now }
     ensures value { result ≡ length_field bytes.now }
     ensures small { result < 65536 }
 {
-    256 * usize::from(bytes[2]) + usize::from(bytes[3])
+    usize::from(u16_at(bytes, 2))
 }
 
 /// What is wrong with a header.

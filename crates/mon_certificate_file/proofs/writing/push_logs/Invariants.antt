@@ -1,8 +1,8 @@
 use Rattle.std.proofs.Common.{◌≡◌, ◌++◌, take, length, decimal}
 use Rattle.std.specs.List.{flat_map, AllByRecursion}
 use Rattle.mon_refute.specs.Text.{log_text, FitsLog}
-use Rattle.mon_certificate_file.specs.CertificateFile.{feed}
 use Rattle.mon_certificate_file.proofs.writing.push_logs.Given as goal
+use Rattle.mon_text.specs.Parts.{feed}
 
 abbrev pub invariant-loop-log : goal.invariant-loop-log
 invariant-loop-log l = record {

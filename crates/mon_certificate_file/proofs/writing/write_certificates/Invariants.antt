@@ -1,7 +1,8 @@
 use Rattle.std.proofs.Common.{◌≡◌, ◌++◌, take, length, codes, decimal}
 use Rattle.std.specs.List.{AllByRecursion}
-use Rattle.mon_certificate_file.specs.CertificateFile.{feed, row, certificate_text, IsCertificateInRange, FitsCertificate}
+use Rattle.mon_certificate_file.specs.CertificateFile.{row, certificate_text, IsCertificateInRange, FitsCertificate}
 use Rattle.mon_certificate_file.proofs.writing.write_certificates.Given as goal
+use Rattle.mon_text.specs.Parts.{feed}
 
 abbrev pub invariant-loop-rule : goal.invariant-loop-rule
 invariant-loop-rule l = record {
