@@ -15,8 +15,7 @@ use Rattle.mon_settings.specs.declared.parts.Peers.{Peers}
 use Rattle.mon_settings.specs.declared.parts.Network.{Network}
 use Rattle.mon_settings.specs.declared.parts.Pace.{Pace}
 use Rattle.mon_settings.specs.declared.settings.Settings.{Settings}
-use Rattle.mon_settings.specs.Texts.{within}
-use Rattle.mon_settings.specs.Members.{or_bad, and_then, number_in, number_member, address_member}
+use Rattle.mon_settings.specs.Members.{or_bad, and_then, within, number_in, number_member, address_member}
 use Rattle.mon_settings.specs.Lists.{switches, links, tags, or_too_few, enough}
 use Rattle.mon_settings.specs.Names.{all_known}
 use Rattle.mon_settings.specs.Faults.{Gives}

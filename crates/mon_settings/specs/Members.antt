@@ -1,9 +1,9 @@
 -- The members of the settings that are numbers or addresses.
-use Rattle.std.specs.Prelude.{ℕ, List, ◌∷◌, ◌++◌, decimal, Option, Some, None, option_and_then, Result, Ok, Err}
+use Rattle.std.specs.Prelude.{ℕ, nat_le, ◌&&◌, if◌then◌else◌, List, ◌∷◌, ◌++◌, decimal, Option, Some, None, option_and_then, Result, Ok, Err}
 use Rattle.serde_json.specs.Data.{Data}
 use Rattle.serde_json.specs.Find.{get, as_number, as_u64, as_str}
 use Rattle.mon_settings.specs.declared.address.Address.{Address}
-use Rattle.mon_settings.specs.Texts.{within, address_of}
+use Rattle.mon_settings.specs.Texts.{address_of}
 
 -- what a value says, or the path of the wrong one
 abbrev pub or_bad : {A : Type 0} → List ℕ → Option A → Result A (List ℕ)
@@ -18,6 +18,10 @@ and_then (Ok x) next = next x
 -- the path of an element: its member, a slash (47) and its place from 0
 abbrev pub element_path : List ℕ → ℕ → List ℕ
 element_path name place = name ++ 47 ∷ decimal place
+
+-- a number, where it is from low to high
+abbrev pub within : ℕ → ℕ → ℕ → Option ℕ
+within low high n = if nat_le low n && nat_le n high then Some n else None
 
 -- a whole number from low to high: one with a fraction or an exponent is none
 abbrev pub number_in : ℕ → ℕ → Data → Option ℕ

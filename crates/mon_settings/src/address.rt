@@ -1,9 +1,10 @@
 //! Addresses of IPv4.
 
-ghost use Rattle.std.specs.Prelude.{◌≡◌, ◌≤◌, option_map};
-ghost use Rattle.mon_settings.specs.Texts.{split_at, octet_before, address_with, address_of};
+ghost use Rattle.std.specs.Prelude.{◌≡◌, option_map};
+ghost use Rattle.mon_settings.specs.Texts.{octet_before, address_with, address_in, address_of};
 
-use crate::digits::decimal_in;
+use crate::texts::whole;
+use mon_text::{behind, number_within};
 
 /// Where to listen or to connect to: an address of IPv4 (RFC 791), its first byte the highest, and a port of TCP.
 #[derive(Clone, Copy, Debug, PartialEq, Eq)]
@@ -12,31 +13,18 @@ pub struct Address {
     pub port: u16,
 }
 
-/// What stands before the first of a byte, and what stands after it.
-fn split_at(byte: u8, text: &[u8]) -> Option<(&[u8], &[u8])>
-    ensures { option_map (λ p. (p.0.now, p.1.now)) result ≡ split_at byte text.now }
+/// The number of 0 to 255 at the front of a text, where these bytes follow it, and the text behind them.
+fn octet_before<'a>(end: &[u8], text: &'a [u8]) -> Option<(u8, &'a [u8])>
+    ensures { option_map (λ p. (p.0, p.1.now)) result ≡ octet_before end.now text.now }
 {
-    for (i, b) in text.iter().enumerate() {
-        if *b == byte {
-            return Some((&text[..i], &text[i + 1..]));
-        }
-    }
-    None
-}
-
-/// A number of 0 to 255 before a byte, and what stands after it.
-#[tactic(auto, unfolding(crate::specs::Texts::octet_before))]
-fn octet_before(byte: u8, text: &[u8]) -> Option<(u8, &[u8])>
-    ensures { option_map (λ p. (p.0, p.1.now)) result ≡ octet_before byte text.now }
-{
-    let (head, rest) = split_at(byte, text)?;
-    let n = decimal_in(0, 255, head)?;
+    let (n, rest) = number_within(0, 255, text)?;
+    let rest = behind(end, rest)?;
     Some((n as u8, rest))
 }
 
 /// The address of four numbers and a port.
 fn address_with(a: u8, b: u8, c: u8, d: u8, port: u16) -> Address
-    ensures { result ≡ address_with a b c d port }
+    ensures { result ≡ address_with (a, (b, (c, (d, port)))) }
 {
     let high = 256 * u32::from(a) + u32::from(b);
     let low = 256 * u32::from(c) + u32::from(d);
@@ -46,15 +34,22 @@ fn address_with(a: u8, b: u8, c: u8, d: u8, port: u16) -> Address
     }
 }
 
+/// The address at the front of a text, and the text behind it.
+#[tactic(auto, unfolding(crate::specs::Texts::address_in))]
+fn address_at(text: &[u8]) -> Option<(Address, &[u8])>
+    ensures { option_map (λ p. (p.0, p.1.now)) result ≡ address_in text.now }
+{
+    let (a, rest) = octet_before(b".", text)?;
+    let (b, rest) = octet_before(b".", rest)?;
+    let (c, rest) = octet_before(b".", rest)?;
+    let (d, rest) = octet_before(b":", rest)?;
+    let (port, rest) = number_within(1, 65535, rest)?;
+    Some((address_with(a, b, c, d, port), rest))
+}
+
 /// The address that a text is, as in `127.0.0.1:6633`; None where it is none.
-#[tactic(auto, unfolding(crate::specs::Texts::address_of))]
 pub fn address_of(text: &[u8]) -> Option<Address>
     ensures { result ≡ address_of text.now }
 {
-    let (a, rest) = octet_before(b'.', text)?;
-    let (b, rest) = octet_before(b'.', rest)?;
-    let (c, rest) = octet_before(b'.', rest)?;
-    let (d, rest) = octet_before(b':', rest)?;
-    let port = decimal_in(1, 65535, rest)?;
-    Some(address_with(a, b, c, d, port as u16))
+    whole(address_at(text))
 }

@@ -6,7 +6,6 @@
 #![tactic(auto)]
 
 mod address;
-mod digits;
 mod fault;
 mod lists;
 mod members;
@@ -15,6 +14,7 @@ mod parts;
 mod settings;
 #[cfg(test)]
 mod tests;
+mod texts;
 
 pub use address::Address;
 pub use fault::{PathBytes, SettingsFault};

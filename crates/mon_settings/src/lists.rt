@@ -7,9 +7,9 @@ ghost use Rattle.mon_settings.specs.Members.{number_in};
 ghost use Rattle.mon_settings.specs.Lists.{count, counted, elements, datapath_in, following, next_switch, switches_from, switches, port_at, datapath_at, link_parts, four, link_of, sound, next_link, links_from, links, next_tag, tags_from, tags, enough};
 ghost use Rattle.mon_settings.specs.Faults.{Gives};
 
-use crate::digits::datapath_of;
 use crate::fault::{SettingsFault, bad, bad_element};
 use crate::members::number_in;
+use crate::texts::datapath_of;
 use mon_topo::{Datapaths, Link, Links, TopoFault, Topology, Vids, colour, wrong_link};
 use serde_json::Value;
 use std::alloc::Global;

@@ -121,6 +121,7 @@ fn judges_addresses(rt: HostRuntime) -> Result<(), Fail> {
         ("controller", "\"127.0..1:1\"", "controller"),
         ("controller", "\"+127.0.0.1:1\"", "controller"),
         ("controller", "\"127.0.0.1\"", "controller"),
+        ("controller", "\"127.0.0.1:1 \"", "controller"),
         ("controller", "2130706433", "controller"),
         ("listen", "\"127.0.0.1:0\"", "listen"),
     ];
@@ -139,6 +140,7 @@ fn judges_lists(rt: HostRuntime) -> Result<(), Fail> {
         ("switches", "\"0000000000000001\"", "switches"),
         ("switches", "[1]", "switches/0"),
         ("switches", "[\"000000000000001\"]", "switches/0"),
+        ("switches", "[\"00000000000000001\"]", "switches/0"),
         ("switches", "[\"000000000000000A\"]", "switches/0"),
         (
             "switches",
