@@ -8,7 +8,8 @@ use Rattle.mon_shows.specs.declared.near.Near.{Near}
 use Rattle.mon_shows.specs.Views.{Viewing, is_in_use}
 use Rattle.mon_shows.specs.Links.{PortsAscend}
 use Rattle.mon_table_file.specs.TableFile.{FitsView, FitsLink}
-use Rattle.mon_table_file.specs.Reading.{Heading, FitsHeading, FitsNear, IsTag, has_other_tag, ports_rise, view_given}
+use Rattle.mon_table_file.specs.Lines.{IsTag, FitsNear}
+use Rattle.mon_table_file.specs.Reading.{Heading, FitsHeading, has_other_tag, ports_rise, view_given}
 
 -- each number of an ascending list may follow those before it
 ascends-at : (low high : ℕ) (xs : List ℕ) (i : ℕ) → i < length xs → Ascends low high xs → may_follow low high (take i xs) (get_or xs i 0) ≡ true
@@ -55,7 +56,7 @@ fits_link : (v : Viewing) (n : Near) → FitsNear n → has_other_tag v.tag v.ta
 unfolding has_other_tag
 fits_link v n f e =
     let p = and_parts (not (n.tag == v.tag)) (is_in_use n.tag v.tags) e in
-    record { port = f.port; switch = f.switch; far_port = f.far_port; in_use = p.1; other = eqb-false n.tag v.tag (not-true (n.tag == v.tag) p.0) }
+    record { near = f; in_use = p.1; other = eqb-false n.tag v.tag (not-true (n.tag == v.tag) p.0) }
 
 fits_links : (v : Viewing) (links : List Near) → AllByRecursion FitsNear links → list_all (has_other_tag v.tag v.tags) links ≡ true → AllByRecursion (FitsLink v) links
 fits_links v [] f e = tt

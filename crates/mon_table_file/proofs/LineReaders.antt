@@ -1,9 +1,9 @@
 -- Each line of a table file is read just as it is spelled.
 use Rattle.std.proofs.Common.{◌≡◌, ℕ, zero, suc, ◌+◌, ◌/◌, ◌^◌, ◌<◌, ◌≤◌, true, cond, refl, sym, ap, subst, ◌∙◌, List, [], ◌∷◌, ◌++◌, length, Option, Some, None, option_map, inl, inr, arith, decimal, codes, append_assoc}
-use Rattle.std.specs.Prelude.{nat_lt, nat_le, is_ok, ◌&&◌, option_and_then}
+use Rattle.std.specs.Prelude.{nat_lt, option_and_then}
 use Rattle.std.specs.List.{flat_map, AllByRecursion}
 use Rattle.std.specs.Int.{IsInRange}
-use Rattle.std.proofs.lemmas.Bool.{and_parts, and_from, leb-true, le-leb, ltb-true, lt-ltb, cases_lt, le-ltb, cond-true, cond-false}
+use Rattle.std.proofs.lemmas.Bool.{and_parts, and_from, ltb-true, lt-ltb, cases_lt, le-ltb, cond-true, cond-false}
 use Rattle.std.proofs.lemmas.Option.{none-some, cond_some, same_Some}
 use Rattle.mon_text.specs.Hex.{hex, hex_digit, byte_of, digit_of, AllBytes, AreBytes}
 use Rattle.mon_text.specs.Numbers.{NoDigit}
@@ -11,9 +11,8 @@ use Rattle.mon_text.specs.Parts.{Part, behind, led, ended, both, passing, pair_i
 use Rattle.mon_text.proofs.Joining.{IsReader, bound, mapped, pair_is, behind-found, behind-again, reader_led, reader_ended, reader_seen, reader_as, reader_both, reader_within, number_within-found, number_within-again}
 use Rattle.mon_text.proofs.InDigits.{reader_bytes, reader_datapath, run-found, run-again}
 use Rattle.mon_shows.specs.declared.near.Near.{Near}
-use Rattle.of_action.specs.Reading.{actions_of}
-use Rattle.mon_table_file.specs.Lines.{datapath_text, first_line, switch_line, tag_text, tags_line, miss_line, link_line, Row, actions_text, rule_line, AreActions, FitsRow}
-use Rattle.mon_table_file.specs.Reading.{port_in, datapath_word, last_tag, switch_in, miss_in, tag_before, end_or, tags_in, tags_line_in, near_of, link_in, FitsNear, are_actions, run_of, actions_in, front_in, row_of, row_in, Heading, heading_of, head_in, IsTag, FitsTags, FitsHeading, heading_text}
+use Rattle.mon_table_file.specs.Lines.{datapath_text, first_line, switch_line, tag_text, tags_line, miss_line, link_line, IsPort, IsTag, FitsNear, Row, actions_text, rule_line, are_actions, AreActions, FitsRow}
+use Rattle.mon_table_file.specs.Reading.{port_in, datapath_word, last_tag, switch_in, miss_in, tag_before, end_or, tags_in, tags_line_in, near_of, link_in, are_some_actions, run_of, actions_in, front_in, row_of, row_in, Heading, heading_of, head_in, FitsTags, FitsHeading, heading_text}
 
 no_digit : IsInRange 48 57 32 → ⊥
 no_digit h = let k : 48 ≤ 32 = h.0 in omega arith
@@ -24,9 +23,6 @@ no_digit_either h = let k : 48 ≤ 10 = h.0 in omega arith
 none_from : {A : Type 0} (o : Option A) → ((a : A) → o ≡ Some a → ⊥) → o ≡ None
 none_from None f = refl
 none_from (Some a) f = absurd (f a refl)
-
-abbrev IsPort : ℕ → Type 0
-IsPort n = (1 ≤ n) × (n ≤ 65280)
 
 reader_port : IsReader (λ n. decimal n ++ codes " ") IsPort port_in
 reader_port = reader_within 1 65280 32 [] (omega arith) no_digit
@@ -206,21 +202,20 @@ record IsHexActions (text bytes rest : List ℕ) : Type 0 where
   actions : AreActions bytes
   is : text ≡ hex bytes ++ (feed ++ rest)
 
-tested : (bytes : List ℕ) → AllBytes bytes → are_actions bytes ≡ true → (0 < length bytes) × AreActions bytes
+tested : (bytes : List ℕ) → AllBytes bytes → are_some_actions bytes ≡ true → (0 < length bytes) × AreActions bytes
 tested bytes all e =
-    let t = and_parts (nat_lt 0 (length bytes)) (nat_le (length bytes) 512 && is_ok (actions_of bytes)) e in
-    let u = and_parts (nat_le (length bytes) 512) (is_ok (actions_of bytes)) t.1 in
-    (ltb-true 0 (length bytes) t.0, record { bytes_are = all; few = leb-true (length bytes) 512 u.0; whole = u.1 })
+    let t = and_parts (nat_lt 0 (length bytes)) (are_actions bytes) e in
+    (ltb-true 0 (length bytes) t.0, record { bytes_are = all; whole = t.1 })
 
-in_digits : (text bytes rest : List ℕ) → passing are_actions (ended feed run_of) text ≡ Some (bytes, rest) → IsHexActions text bytes rest
+in_digits : (text bytes rest : List ℕ) → passing are_some_actions (ended feed run_of) text ≡ Some (bytes, rest) → IsHexActions text bytes rest
 in_digits text bytes rest e =
-    let p = bound (λ (q : List ℕ × List ℕ). cond (are_actions q.0) (Some q) None) (ended feed run_of text) (bytes, rest) e in
-    let c = cond_some (are_actions p.0.0) p.0 (bytes, rest) p.2 in
+    let p = bound (λ (q : List ℕ × List ℕ). cond (are_some_actions q.0) (Some q) None) (ended feed run_of text) (bytes, rest) e in
+    let c = cond_some (are_some_actions p.0.0) p.0 (bytes, rest) p.2 in
     let q = mapped {B = List ℕ × List ℕ} (λ (r : List ℕ). ((run_in text).0, r)) (behind feed (run_in text).1) p.0 p.1 in
     let run = run-found text in
     let same : (run_in text).0 ≡ bytes = ap (λ (z : List ℕ × List ℕ). z.0) (q.2 ∙ c.1) in
     let after : q.0 ≡ rest = ap (λ (z : List ℕ × List ℕ). z.1) (q.2 ∙ c.1) in
-    let test : are_actions bytes ≡ true = ap are_actions (sym (ap (λ (z : List ℕ × List ℕ). z.0) c.1)) ∙ c.0 in
+    let test : are_some_actions bytes ≡ true = ap are_some_actions (sym (ap (λ (z : List ℕ × List ℕ). z.0) c.1)) ∙ c.0 in
     let t = tested bytes (subst AllBytes same run.bytes) test in
     record {
       some = t.0;
@@ -229,9 +224,9 @@ in_digits text bytes rest e =
     }
 
 no_actions : AreActions []
-no_actions = record { bytes_are = tt; few = omega arith; whole = refl }
+no_actions = record { bytes_are = tt; whole = refl }
 
-dash_or_digits : (text bytes rest : List ℕ) (end : Option (List ℕ)) → behind (codes "-" ++ feed) text ≡ end → end_or end (passing are_actions (ended feed run_of) text) ≡ Some (bytes, rest)
+dash_or_digits : (text bytes rest : List ℕ) (end : Option (List ℕ)) → behind (codes "-" ++ feed) text ≡ end → end_or end (passing are_some_actions (ended feed run_of) text) ≡ Some (bytes, rest)
     → AreActions bytes × (text ≡ (actions_text bytes ++ feed) ++ rest)
 dash_or_digits text bytes rest (Some r) b e =
     let f : ([], r) ≡ (bytes, rest) = same_Some ([], r) (bytes, rest) e in
@@ -243,20 +238,20 @@ dash_or_digits text bytes rest None b e =
     let h = in_digits text bytes rest e in
     (h.actions, h.is ∙ ap (λ t. t ++ (feed ++ rest)) (sym (hex_text bytes h.some)) ∙ sym (append_assoc (actions_text bytes) feed rest))
 
-actions_test : (byte : ℕ) (bytes : List ℕ) → AreActions (byte ∷ bytes) → are_actions (byte ∷ bytes) ≡ true
-actions_test byte bytes are = and_from _ _ (lt-ltb 0 (length (byte ∷ bytes)) (omega arith)) (and_from _ _ (le-leb (length (byte ∷ bytes)) 512 are.few) are.whole)
+actions_test : (byte : ℕ) (bytes : List ℕ) → AreActions (byte ∷ bytes) → are_some_actions (byte ∷ bytes) ≡ true
+actions_test byte bytes are = and_from _ _ (lt-ltb 0 (length (byte ∷ bytes)) (omega arith)) are.whole
 
 actions-again : (bytes rest : List ℕ) → AreActions bytes → actions_in ((actions_text bytes ++ feed) ++ rest) ≡ Some (bytes, rest)
 unfolding actions_in
-actions-again [] rest are = ap (λ o. end_or o (passing are_actions (ended feed run_of) ((codes "-" ++ feed) ++ rest))) (behind-again (codes "-" ++ feed) rest)
+actions-again [] rest are = ap (λ o. end_or o (passing are_some_actions (ended feed run_of) ((codes "-" ++ feed) ++ rest))) (behind-again (codes "-" ++ feed) rest)
 actions-again (byte ∷ bytes) rest are =
     let text = hex (byte ∷ bytes) ++ (feed ++ rest) in
     ap actions_in (append_assoc (hex (byte ∷ bytes)) feed rest)
-    ∙ ap (λ o. end_or o (passing are_actions (ended feed run_of) text)) (no_dash byte bytes (feed ++ rest))
-    ∙ ap (λ (r : List ℕ × List ℕ). option_and_then (λ (q : List ℕ × List ℕ). cond (are_actions q.0) (Some q) None) (option_map {U = List ℕ × List ℕ} (λ t. (r.0, t)) (behind feed r.1)))
+    ∙ ap (λ o. end_or o (passing are_some_actions (ended feed run_of) text)) (no_dash byte bytes (feed ++ rest))
+    ∙ ap (λ (r : List ℕ × List ℕ). option_and_then (λ (q : List ℕ × List ℕ). cond (are_some_actions q.0) (Some q) None) (option_map {U = List ℕ × List ℕ} (λ t. (r.0, t)) (behind feed r.1)))
     (run-again (byte ∷ bytes) (feed ++ rest) are.bytes_are (no_pair_at_end rest))
-    ∙ ap (λ o. option_and_then (λ (q : List ℕ × List ℕ). cond (are_actions q.0) (Some q) None) (option_map {U = List ℕ × List ℕ} (λ t. (byte ∷ bytes, t)) o)) (behind-again feed rest)
-    ∙ cond-true (are_actions (byte ∷ bytes)) (Some (byte ∷ bytes, rest)) None (actions_test byte bytes are)
+    ∙ ap (λ o. option_and_then (λ (q : List ℕ × List ℕ). cond (are_some_actions q.0) (Some q) None) (option_map {U = List ℕ × List ℕ} (λ t. (byte ∷ bytes, t)) o)) (behind-again feed rest)
+    ∙ cond-true (are_some_actions (byte ∷ bytes)) (Some (byte ∷ bytes, rest)) None (actions_test byte bytes are)
 
 reader_actions : IsReader (λ bytes. actions_text bytes ++ feed) AreActions actions_in
 unfolding actions_in

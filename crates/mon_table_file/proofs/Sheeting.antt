@@ -5,7 +5,7 @@ use Rattle.std.proofs.lemmas.Bool.{eqb-true}
 use Rattle.std.specs.List.{flat_map, AllByRecursion}
 use Rattle.std.proofs.lemmas.List.{append-nil, length-map}
 use Rattle.std.proofs.lemmas.Option.{none-some, some_pair_parts}
-use Rattle.mon_topo.specs.Ascending.{AreVids, Ascends}
+use Rattle.mon_topo.specs.Ascending.{Ascends}
 use Rattle.mon_table.specs.declared.rule.Rule.{Rule}
 use Rattle.mon_shows.specs.declared.near.Near.{Near}
 use Rattle.mon_shows.specs.Views.{Viewing}
@@ -13,9 +13,9 @@ use Rattle.mon_text.specs.declared.fault.FileFault.{FileFault}
 use Rattle.mon_text.specs.declared.fault.FileFault.TheVariants.{Bad, OutOfMemory}
 use Rattle.mon_text.proofs.Joining.{reader_many}
 use Rattle.mon_table_file.specs.Filling.{filled, AreApart}
-use Rattle.mon_table_file.specs.Lines.{first_line, switch_line, tags_line, miss_line, link_line, Row, rule_line, FitsRow, rule_given}
+use Rattle.mon_table_file.specs.Lines.{first_line, switch_line, tags_line, miss_line, link_line, IsTag, FitsNear, Row, rule_line, FitsRow, rule_given}
 use Rattle.mon_table_file.specs.TableFile.{FitsView, FitsLink, IsTableFile, Reads}
-use Rattle.mon_table_file.specs.Reading.{Heading, heading_text, FitsNear, IsTag, head_in, link_in, row_in, AreRead, view_given}
+use Rattle.mon_table_file.specs.Reading.{Heading, heading_text, head_in, link_in, row_in, AreRead, view_given}
 use Rattle.mon_table_file.specs.Sheets.{IsSheet, ReadsSheet}
 use Rattle.mon_table_file.proofs.LineReaders.{reader_heading, reader_link, reader_row, no_link, no_row}
 use Rattle.mon_table_file.proofs.Deciding.{tag_in_range}
@@ -71,17 +71,16 @@ tags_fit : (low : ℕ) (tags : List ℕ) → 1 ≤ low → Ascends low 4094 tags
 tags_fit low [] least up = tt
 tags_fit low (t ∷ tags) least up = ((let k : low ≤ t = up.0 in omega arith, up.1), tags_fit (suc t) tags (omega arith) up.2)
 
-near_fit : (v : Viewing) (links : List Near) → AreVids v.tags → AllByRecursion (FitsLink v) links → AllByRecursion FitsNear links
-near_fit v [] vids all = tt
-near_fit v (n ∷ ns) vids all =
-    (record { port = all.0.port; switch = all.0.switch; far_port = all.0.far_port; tag = tag_in_range v.tags n.tag vids all.0.in_use }, near_fit v ns vids all.1)
+near_fit : (v : Viewing) (links : List Near) → AllByRecursion (FitsLink v) links → AllByRecursion FitsNear links
+near_fit v [] all = tt
+near_fit v (n ∷ ns) all = (all.0.near, near_fit v ns all.1)
 
 pub file_sheet : (text : List ℕ) (v : Viewing) (t : List Rule) (f : IsTableFile text v t) → IsSheet text (head_of v) v.links (map rule_given f.rows)
 file_sheet text v t f = record {
   rows = f.rows;
   is = f.is ∙ sym (lines_are v (flat_map link_line v.links ++ flat_map rule_line f.rows));
   head = record { switch = f.view.switch; tag = tag_in_range v.tags v.tag f.view.tags f.view.in_use; tags = (f.view.few, tags_fit 1 v.tags (omega arith) f.view.tags); miss = f.view.miss };
-  near = near_fit v v.links f.view.tags f.view.links;
+  near = near_fit v v.links f.view.links;
   fit = f.fit;
   given = refl;
 }

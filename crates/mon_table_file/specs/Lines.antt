@@ -1,5 +1,5 @@
 -- The lines of a table file. Words are parted by one space, and a line feed ends each line.
-use Rattle.std.specs.Prelude.{◌≡◌, ℕ, ◌<◌, ◌≤◌, ◌^◌, is_ok, true, List, [], ◌∷◌, ◌++◌, length, codes, decimal, Result, Ok, Err}
+use Rattle.std.specs.Prelude.{◌≡◌, ℕ, ◌<◌, ◌≤◌, ◌^◌, Bool, nat_le, ◌&&◌, is_ok, true, List, [], ◌∷◌, ◌++◌, length, codes, decimal, Result, Ok, Err}
 use Rattle.std.specs.List.{flat_map}
 use Rattle.std.specs.Int.{w64, to_be_bytes}
 use Rattle.mon_text.specs.Hex.{hex, AllBytes, AreBytes}
@@ -38,6 +38,20 @@ link_line n =
     codes "link "
     ++ (decimal n.port ++ (codes " " ++ (datapath_text n.switch ++ (codes " " ++ (decimal n.far_port ++ (codes " " ++ (decimal n.tag ++ feed)))))))
 
+-- a port of a link, and a tag
+abbrev pub IsPort : ℕ → Type 0
+IsPort n = (1 ≤ n) × (n ≤ 65280)
+
+abbrev pub IsTag : ℕ → Type 0
+IsTag n = (1 ≤ n) × (n ≤ 4094)
+
+-- the numbers of a link are in range
+pub record FitsNear (n : Near) : Type 0 where
+  pub port : IsPort n.port
+  pub switch : n.switch < 2 ^ 64
+  pub far_port : IsPort n.far_port
+  pub tag : IsTag n.tag
+
 -- what the line of a rule says: its priority, the 40 bytes of its match, and the bytes of its actions
 pub record Row : Type 0 where
   pub priority : ℕ
@@ -53,11 +67,13 @@ abbrev pub rule_line : Row → List ℕ
 rule_line r =
     codes "rule " ++ (decimal r.priority ++ (codes " " ++ (hex r.matching ++ (codes " " ++ (actions_text r.actions ++ feed)))))
 
--- bytes of whole actions (OpenFlow 1.0.0, flow action structures), at most 512 of them
+-- whole actions (OpenFlow 1.0.0, flow action structures), at most 512 bytes of them
+abbrev pub are_actions : List ℕ → Bool
+are_actions bytes = nat_le (length bytes) 512 && is_ok (actions_of bytes)
+
 pub record AreActions (bytes : List ℕ) : Type 0 where
   pub bytes_are : AllBytes bytes
-  pub few : length bytes ≤ 512
-  pub whole : is_ok (actions_of bytes) ≡ true
+  pub whole : are_actions bytes ≡ true
 
 pub record FitsRow (r : Row) : Type 0 where
   pub priority : r.priority < 2 ^ 16

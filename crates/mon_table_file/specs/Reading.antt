@@ -1,5 +1,5 @@
 -- How the lines of a table file are read, part by part.
-use Rattle.std.specs.Prelude.{◌≡◌, ℕ, zero, suc, ◌≤◌, ◌<◌, ◌^◌, Bool, true, not, ◌==◌, nat_lt, nat_le, is_ok, ◌&&◌, if◌then◌else◌, List, [], ◌∷◌, ◌++◌, length, codes, Option, Some, None, option_and_then}
+use Rattle.std.specs.Prelude.{◌≡◌, ℕ, zero, suc, ◌≤◌, ◌<◌, ◌^◌, Bool, true, not, ◌==◌, nat_lt, nat_le, ◌&&◌, if◌then◌else◌, List, [], ◌∷◌, ◌++◌, length, codes, Option, Some, None, option_and_then}
 use Rattle.std.specs.List.{flat_map, AllByRecursion}
 use Rattle.mon_text.specs.Parts.{Part, behind, led, ended, both, seen, passing, bytes_in, run_in, number_within, datapath_in, feed}
 use Rattle.mon_header.specs.declared.action.Action.{Action}
@@ -10,7 +10,7 @@ use Rattle.mon_shows.specs.Views.{Viewing, is_in_use}
 use Rattle.of_match.specs.Layout.{match_of}
 use Rattle.of_action.specs.Reading.{actions_of}
 use Rattle.mon_table_file.specs.declared.sections.Head.{Head}
-use Rattle.mon_table_file.specs.Lines.{Row, first_line, switch_line, tags_line, miss_line, actions_given, rule_given}
+use Rattle.mon_table_file.specs.Lines.{first_line, switch_line, tags_line, miss_line, IsTag, Row, are_actions, actions_given, rule_given}
 
 -- a port of 1 to 65280 and a space
 abbrev pub port_in : List ℕ → Part ℕ
@@ -50,20 +50,20 @@ near_of x = record { port = x.0; switch = x.1.0; far_port = x.1.1.0; tag = x.1.1
 unfoldable pub link_in : List ℕ → Part Near
 link_in = seen near_of (led (codes "link ") (both port_in (both datapath_word (both port_in last_tag))))
 
--- there are bytes, at most 512, and they are whole actions
-abbrev pub are_actions : List ℕ → Bool
-are_actions bytes = nat_lt 0 (length bytes) && (nat_le (length bytes) 512 && is_ok (actions_of bytes))
+-- there are bytes, and they are actions
+abbrev pub are_some_actions : List ℕ → Bool
+are_some_actions bytes = nat_lt 0 (length bytes) && are_actions bytes
 
 abbrev pub run_of : List ℕ → Part (List ℕ)
 run_of text = Some (run_in text)
 
 -- a dash or digits, and the end of the line
 unfoldable pub actions_in : List ℕ → Part (List ℕ)
-actions_in text = end_or (behind (codes "-" ++ feed) text) (passing are_actions (ended (feed) run_of) text)
+actions_in text = end_or (behind (codes "-" ++ feed) text) (passing are_some_actions (ended (feed) run_of) text)
 
 -- the actions of bytes, none where these are no actions
 abbrev pub actions_from : List ℕ → Option (List Action)
-actions_from bytes = if are_actions bytes then Some (actions_given (actions_of bytes)) else None
+actions_from bytes = if are_some_actions bytes then Some (actions_given (actions_of bytes)) else None
 
 -- bytes as what they say, with the text behind them
 abbrev pub with_match : (ℕ × List ℕ) × List ℕ → (ℕ × Matching) × List ℕ
@@ -91,13 +91,6 @@ pub record AreRead {X : Type 0} (line : X → List ℕ) (Fits : X → Type 0) (p
   pub fit : AllByRecursion Fits lines
   pub ends : part rest ≡ None
 
--- ranges of a link's numbers
-pub record FitsNear (n : Near) : Type 0 where
-  pub port : (1 ≤ n.port) × (n.port ≤ 65280)
-  pub switch : n.switch < 2 ^ 64
-  pub far_port : (1 ≤ n.far_port) × (n.far_port ≤ 65280)
-  pub tag : (1 ≤ n.tag) × (n.tag ≤ 4094)
-
 unfoldable pub tags_line_in : List ℕ → Part (List ℕ)
 tags_line_in = led (codes "tags") (tags_in 65)
 
@@ -117,10 +110,6 @@ heading_of x = record { switch = x.0.0.0; tag = x.0.0.1; tags = x.0.1; miss = x.
 
 unfoldable pub head_in : List ℕ → Part Heading
 head_in = seen heading_of (led (codes "monocle-table 1" ++ feed) (both (both switch_in tags_line_in) miss_in))
-
--- a tag that a switch may have
-abbrev pub IsTag : ℕ → Type 0
-IsTag n = (1 ≤ n) × (n ≤ 4094)
 
 abbrev pub FitsTags : List ℕ → Type 0
 FitsTags tags = (length tags ≤ 64) × AllByRecursion IsTag tags

@@ -6,8 +6,8 @@ use Rattle.mon_shows.specs.declared.near.Near.{Near}
 use Rattle.mon_text.specs.declared.fault.FileFault.{FileFault}
 use Rattle.mon_text.specs.declared.fault.FileFault.TheVariants as fault
 use Rattle.mon_table_file.specs.declared.reading.Sheet.{Sheet}
-use Rattle.mon_table_file.specs.Lines.{Row, link_line, rule_line, FitsRow, rule_given}
-use Rattle.mon_table_file.specs.Reading.{Heading, heading, heading_text, FitsHeading, FitsNear}
+use Rattle.mon_table_file.specs.Lines.{link_line, FitsNear, Row, rule_line, FitsRow, rule_given}
+use Rattle.mon_table_file.specs.Reading.{Heading, heading, heading_text, FitsHeading}
 
 -- the text is the first four lines, lines of links, and lines of rules
 pub record IsSheet (text : List ℕ) (h : Heading) (links : List Near) (rules : List Rule) : Type 0 where

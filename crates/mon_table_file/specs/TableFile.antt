@@ -9,7 +9,7 @@ use Rattle.mon_shows.specs.Links.{PortsAscend}
 use Rattle.mon_text.specs.declared.fault.FileFault.{FileFault}
 use Rattle.mon_text.specs.declared.fault.FileFault.TheVariants as fault
 use Rattle.mon_table_file.specs.Filling.{filled, AreApart}
-use Rattle.mon_table_file.specs.Lines.{first_line, switch_line, tags_line, miss_line, link_line, Row, rule_line, FitsRow, rule_given}
+use Rattle.mon_table_file.specs.Lines.{first_line, switch_line, tags_line, miss_line, link_line, FitsNear, Row, rule_line, FitsRow, rule_given}
 
 -- the lines of a view, and then those of rules in any order
 abbrev pub file_text : Viewing → List Row → List ℕ
@@ -21,11 +21,9 @@ file_text v rows =
     ++ (flat_map link_line v.links
     ++ flat_map rule_line rows))))
 
--- ports of 1 to 65280, and another tag in use than the switch's
+-- a link whose numbers are in range, to another tag in use than the switch's
 pub record FitsLink (v : Viewing) (n : Near) : Type 0 where
-  pub port : (1 ≤ n.port) × (n.port ≤ 65280)
-  pub switch : n.switch < 2 ^ 64
-  pub far_port : (1 ≤ n.far_port) × (n.far_port ≤ 65280)
+  pub near : FitsNear n
   pub in_use : is_in_use n.tag v.tags ≡ true
   pub other : n.tag ≢ v.tag
 

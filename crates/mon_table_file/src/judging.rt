@@ -5,7 +5,8 @@ ghost use Rattle.std.specs.List.{list_all, AllByRecursion};
 ghost use Rattle.mon_topo.specs.Ascending.{AreVids};
 ghost use Rattle.mon_shows.specs.Views.{is_in_use};
 ghost use Rattle.mon_table_file.specs.TableFile.{FitsView};
-ghost use Rattle.mon_table_file.specs.Reading.{Heading, heading, FitsHeading, FitsNear, has_other_tag, ports_rise, view_given};
+ghost use Rattle.mon_table_file.specs.Lines.{FitsNear};
+ghost use Rattle.mon_table_file.specs.Reading.{Heading, heading, FitsHeading, has_other_tag, ports_rise, view_given};
 
 use crate::sections::Head;
 use mon_list::{Items, OutOfMemory};

@@ -1,8 +1,8 @@
 //! The sections of a table file.
 
 ghost use Rattle.std.specs.Prelude.{◌≡◌, ℕ, List, map, IfOk, option_map};
-ghost use Rattle.mon_table_file.specs.Lines.{Row, link_line, rule_line, FitsRow, rule_given};
-ghost use Rattle.mon_table_file.specs.Reading.{FitsNear, link_in, row_in, AreRead, tags_line_in, heading, head_in};
+ghost use Rattle.mon_table_file.specs.Lines.{link_line, FitsNear, Row, rule_line, FitsRow, rule_given};
+ghost use Rattle.mon_table_file.specs.Reading.{link_in, row_in, AreRead, tags_line_in, heading, head_in};
 
 use crate::lines::{link_at, miss_at, rule_at, switch_at, tags_at};
 use mon_list::OutOfMemory;

@@ -1,6 +1,6 @@
 use Rattle.std.proofs.Common.{◌≡◌, ◌++◌, ◌∷◌, [], sym, rules}
-use Rattle.mon_table_file.specs.Lines.{link_line}
-use Rattle.mon_table_file.specs.Reading.{FitsNear, link_in}
+use Rattle.mon_table_file.specs.Lines.{link_line, FitsNear}
+use Rattle.mon_table_file.specs.Reading.{link_in}
 use Rattle.mon_table_file.proofs.LineReaders.{reader_link, link_some}
 use Rattle.mon_table_file.proofs.SoFar.{one_line, shorter}
 use Rattle.mon_table_file.proofs.sections.links_at.Goals as goal

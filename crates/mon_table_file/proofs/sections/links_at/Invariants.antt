@@ -1,6 +1,5 @@
 use Rattle.std.proofs.Common.{length}
-use Rattle.mon_table_file.specs.Lines.{link_line}
-use Rattle.mon_table_file.specs.Reading.{FitsNear}
+use Rattle.mon_table_file.specs.Lines.{link_line, FitsNear}
 use Rattle.mon_table_file.proofs.SoFar.{SoFar}
 use Rattle.mon_table_file.proofs.sections.links_at.Given as goal
 
