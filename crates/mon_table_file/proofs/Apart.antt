@@ -1,16 +1,17 @@
--- Rules no two of which have one identity fill a table without replacing any.
-use Rattle.std.proofs.Common.{◌≡◌, ◌⊎◌, ⊎_elim, inl, inr, Bool, true, false, cond, refl, sym, ap, subst, ◌∙◌, List, [], ◌∷◌, Some, None}
+-- Rules no two of which have one identity fill a table without replacing any, and are all that it has.
+use Rattle.std.proofs.Common.{◌≡◌, ◌↔◌, ◌⊎◌, ⊎_elim, inl, inr, Bool, true, false, cond, refl, sym, ap, subst, ◌∙◌, List, [], ◌∷◌, Some, None}
 use Rattle.std.specs.List.{find}
 use Rattle.mon_list.specs.Has.{Has}
 use Rattle.mon_table.specs.declared.rule.Rule.{Rule}
 use Rattle.mon_table.specs.declared.edit.Edit.TheVariants.{Put}
 use Rattle.mon_table.specs.Rules.{Identity, identity_of, same_identity}
-use Rattle.mon_table.specs.Tables.{rule_of, with_rule}
+use Rattle.mon_table.specs.Tables.{AllNormal, IsTable, rule_of, with_rule}
 use Rattle.mon_table.specs.Edits.{after}
 use Rattle.mon_table.proofs.Listing.{all-has, has-all}
 use Rattle.mon_table.proofs.Identities.{other-turned}
-use Rattle.mon_table.proofs.Members.{after-members, members-after}
-use Rattle.mon_table_file.specs.Filling.{added, AreApart}
+use Rattle.mon_table.proofs.Members.{after-members, members-after, after-table, one-list}
+use Rattle.mon_table_file.specs.Filling.{AreApart, IsTableOf}
+use Rattle.mon_table_file.specs.Generator.{added}
 
 -- each rule is added where none of its identity stands
 abbrev pub Fresh : List Rule → List Rule → Type 0
@@ -77,6 +78,44 @@ apart-fresh rs apart = fresh-from [] rs apart (λ r has s none. absurd none)
 
 pub fresh-apart : (rs : List Rule) → Fresh [] rs → AreApart rs
 fresh-apart rs fresh = (apart-from [] rs fresh).apart
+
+-- the rules that stand in a table and those to come are these
+abbrev pub Share : List Rule → List Rule → List Rule → Type 0
+Share rules t rs = (s : Rule) → (Has t s ⊎ Has rs s) ↔ Has rules s
+
+pub share-none : (rules : List Rule) → Share rules [] rules
+share-none rules s = (λ h. ⊎_elim (λ none. absurd none) (λ i. i) h, λ i. inr i)
+
+pub share-more : (rules t new rs : List Rule) (r : Rule) → rule_of (identity_of r) t ≡ None → new ≡ added t r → Share rules t (r ∷ rs) → Share rules new rs
+share-more rules t new rs r none e share s = (
+  λ h. (share s).0 (⊎_elim
+      (λ i. ⊎_elim (λ (is : s ≡ r). inr (inl is)) (λ j. inl j) (added-has t r s (subst (λ (u : List Rule). Has u s) e i)))
+      (λ k. inr (inr k))
+      h),
+  λ i. ⊎_elim
+      (λ j. inl (subst (λ (u : List Rule). Has u s) (sym e) (kept-added t r s j (differs-from (identity_of r) t none s j))))
+      (λ j. ⊎_elim (λ (is : s ≡ r). inl (subst (λ (u : List Rule). Has u s) (sym e) (subst (Has (added t r)) (sym is) (has-added t r)))) (λ k. inr k) j)
+      ((share s).1 i),
+)
+
+pub share-all : (rules t rs : List Rule) → rs ≡ [] → Share rules t rs → (s : Rule) → Has t s ↔ Has rules s
+share-all rules t rs e share s = (
+  λ i. (share s).0 (inl i),
+  λ i. ⊎_elim (λ j. j) (λ k. absurd (subst (λ (u : List Rule). Has u s) e k)) ((share s).1 i),
+)
+
+-- they have a table
+table-from : (rules t rs : List Rule) → IsTable t → AllNormal rs → Fresh t rs → Share rules t rs → (u : List Rule) × IsTableOf rules u
+table-from rules t [] table normal fresh share = (t, record { table = table; members = share-all rules t [] refl share })
+table-from rules t (r ∷ rs) table normal fresh share =
+    table-from rules (added t r) rs (after-table t (Put r (rule_of (identity_of r) t)) table normal.0) normal.1 fresh.1 (share-more rules t (added t r) rs r fresh.0 refl share)
+
+pub has-table : (rules : List Rule) → AllNormal rules → AreApart rules → (t : List Rule) × IsTableOf rules t
+has-table rules normal apart = table-from rules [] rules (record { order = tt; normal = tt }) normal (apart-fresh rules apart) (share-none rules)
+
+-- and only one
+pub one-table : (rules t u : List Rule) → IsTableOf rules t → IsTableOf rules u → t ≡ u
+one-table rules t u a b = one-list t u a.table.order b.table.order (λ r i. (b.members r).1 ((a.members r).0 i)) (λ r i. (a.members r).1 ((b.members r).0 i))
 
 -- a rule that is added where none of its identity stands
 pub not_fresh : (t rs : List Rule) (r old : Rule) → Some old ≡ rule_of (identity_of r) t → Fresh t (r ∷ rs) → ⊥

@@ -12,11 +12,12 @@ use Rattle.mon_shows.specs.Views.{Viewing}
 use Rattle.mon_text.specs.declared.fault.FileFault.{FileFault}
 use Rattle.mon_text.specs.declared.fault.FileFault.TheVariants.{Bad, OutOfMemory}
 use Rattle.mon_text.proofs.Joining.{reader_many}
-use Rattle.mon_table_file.specs.Filling.{filled, AreApart}
+use Rattle.mon_table_file.specs.Filling.{AreApart, IsTableOf}
 use Rattle.mon_table_file.specs.Lines.{first_line, switch_line, tags_line, miss_line, link_line, IsTag, FitsNear, Row, rule_line, FitsRow, rule_given}
 use Rattle.mon_table_file.specs.TableFile.{FitsView, FitsLink, IsTableFile, Reads}
 use Rattle.mon_table_file.specs.Reading.{Heading, heading_text, head_in, link_in, row_in, AreRead, view_given}
 use Rattle.mon_table_file.specs.Sheets.{IsSheet, ReadsSheet}
+use Rattle.mon_table_file.proofs.Apart.{one-table}
 use Rattle.mon_table_file.proofs.LineReaders.{reader_heading, reader_link, reader_row, no_link, no_row}
 use Rattle.mon_table_file.proofs.Deciding.{tag_in_range}
 
@@ -86,8 +87,8 @@ file_sheet text v t f = record {
 }
 
 pub sheet_file : (text : List ℕ) (v : Viewing) (t : List Rule) (h : Heading) (links : List Near) (rules : List Rule) → IsSheet text h links rules → v ≡ view_given h links → FitsView v
-    → length rules ≤ 4096 → AreApart rules → t ≡ filled [] rules → IsTableFile text v t
-sheet_file text v t h links rules s e fits few apart filled_is =
+    → length rules ≤ 4096 → AreApart rules → IsTableOf rules t → IsTableFile text v t
+sheet_file text v t h links rules s e fits few apart table =
     let given : IsTableFile text (view_given h links) t = record {
       rows = s.rows;
       is = s.is ∙ lines_are (view_given h links) (flat_map link_line links ++ flat_map rule_line s.rows);
@@ -95,7 +96,7 @@ sheet_file text v t h links rules s e fits few apart filled_is =
       few = (let k : length rules ≡ length s.rows = ap length s.given ∙ length-map s.rows rule_given in omega arith);
       fit = s.fit;
       apart = subst AreApart s.given apart;
-      table = filled_is ∙ ap (filled []) s.given;
+      table = subst (λ rs. IsTableOf rs t) s.given table;
     } in
     subst (λ w. IsTableFile text w t) (sym e) given
 
@@ -113,3 +114,18 @@ few_rules text v t rules f e = let k : length rules ≡ length f.rows = ap lengt
 
 pub same_view : (h : Heading) (links : List Near) (v : Viewing) → h ≡ head_of v → links ≡ v.links → view_given h links ≡ v
 same_view h links v e f = ap (λ k. view_given k links) e ∙ ap (view_given (head_of v)) f
+
+-- a text is the file of one view and one table
+pub one_file : (text : List ℕ) (v w : Viewing) (t u : List Rule) → IsTableFile text v t → IsTableFile text w u → (v ≡ w) × (t ≡ u)
+unfolding file_sheet
+one_file text v w t u f g =
+    let a = file_sheet text v t f in
+    let b = file_sheet text w u g in
+    let first = some_pair_parts (head_of v) (head_of w) (flat_map link_line v.links ++ flat_map rule_line f.rows) (flat_map link_line w.links ++ flat_map rule_line g.rows)
+    (sym (head_read text (head_of v) v.links (map rule_given f.rows) a) ∙ head_read text (head_of w) w.links (map rule_given g.rows) b) in
+    let second = reader_many link_line FitsNear link_in reader_link v.links w.links (flat_map rule_line f.rows) (flat_map rule_line g.rows) a.near b.near (no_link f.rows) (no_link g.rows) first.1 in
+    let third = reader_many rule_line FitsRow row_in reader_row f.rows g.rows [] [] f.fit g.fit no_row no_row
+    (append-nil (flat_map rule_line f.rows) ∙ second.1 ∙ sym (append-nil (flat_map rule_line g.rows))) in (
+      same_view (head_of v) v.links w first.0 second.0,
+      one-table (map rule_given f.rows) t u f.table (subst (λ (rs : List Rule). IsTableOf rs u) (sym (ap (map rule_given) third.0)) g.table),
+    )

@@ -6,9 +6,12 @@ use Rattle.mon_header.specs.declared.action.Action.{Action}
 use Rattle.mon_header.specs.declared.action.Action.TheVariants.{Output}
 use Rattle.mon_header.specs.Matching.{normal}
 use Rattle.mon_table.specs.declared.rule.Rule.{Rule}
+use Rattle.mon_table.specs.declared.edit.Edit.TheVariants.{Put}
+use Rattle.mon_table.specs.Rules.{identity_of}
+use Rattle.mon_table.specs.Tables.{rule_of}
+use Rattle.mon_table.specs.Edits.{after}
 use Rattle.mon_shows.specs.declared.near.Near.{Near}
 use Rattle.mon_shows.specs.Views.{Viewing}
-use Rattle.mon_table_file.specs.Filling.{added}
 
 -- a link at a port, to the port 1 of the switch with the number above, whose tag is 101
 abbrev pub link_at : ℕ → Near
@@ -85,6 +88,10 @@ priority_of k = 1000 * (k % 4 + 1) + k / 16 % 4
 -- the rule that is made from a number
 unfoldable pub rule_from : ℕ → Rule
 rule_from k = record { matching = normal (wild_of k) (fields_of k); priority = priority_of k; actions = actions_for k }
+
+-- the table after an ADD of a rule, which replaces one of its identity (OpenFlow 1.0.0, modify flow entry message)
+abbrev pub added : List Rule → Rule → List Rule
+added t r = after t (Put r (rule_of (identity_of r) t))
 
 -- what so many ADDs leave, one for each place from 0 on
 abbrev pub generated : ℕ → ℕ → List Rule

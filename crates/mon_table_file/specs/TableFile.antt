@@ -1,5 +1,5 @@
 -- A table file: a switch as its neighbours can show it, and the rules of its table.
-use Rattle.std.specs.Prelude.{◌≡◌, ◌≢◌, ℕ, ◌<◌, ◌≤◌, ◌^◌, true, List, [], map, ◌++◌, length, Result, Ok, Err}
+use Rattle.std.specs.Prelude.{◌≡◌, ◌≢◌, ℕ, ◌<◌, ◌≤◌, ◌^◌, true, List, map, ◌++◌, length, Result, Ok, Err}
 use Rattle.std.specs.List.{flat_map, AllByRecursion}
 use Rattle.mon_topo.specs.Ascending.{AreVids}
 use Rattle.mon_table.specs.declared.rule.Rule.{Rule}
@@ -8,7 +8,7 @@ use Rattle.mon_shows.specs.Views.{Viewing, is_in_use}
 use Rattle.mon_shows.specs.Links.{PortsAscend}
 use Rattle.mon_text.specs.declared.fault.FileFault.{FileFault}
 use Rattle.mon_text.specs.declared.fault.FileFault.TheVariants as fault
-use Rattle.mon_table_file.specs.Filling.{filled, AreApart}
+use Rattle.mon_table_file.specs.Filling.{AreApart, IsTableOf}
 use Rattle.mon_table_file.specs.Lines.{first_line, switch_line, tags_line, miss_line, link_line, FitsNear, Row, rule_line, FitsRow, rule_given}
 
 -- the lines of a view, and then those of rules in any order
@@ -37,7 +37,8 @@ pub record FitsView (v : Viewing) : Type 0 where
   pub links : AllByRecursion (FitsLink v) v.links
   pub ascending : PortsAscend 0 v.links
 
--- the text is a table file of this view and this table: at most 4096 rules, no two of one identity
+-- the text is a table file of this view and this table, whose rules are those of the lines: at most 4096, no two of one
+-- identity
 pub record IsTableFile (text : List ℕ) (v : Viewing) (t : List Rule) : Type 0 where
   pub rows : List Row
   pub is : text ≡ file_text v rows
@@ -45,7 +46,7 @@ pub record IsTableFile (text : List ℕ) (v : Viewing) (t : List Rule) : Type 0 
   pub few : length rows ≤ 4096
   pub fit : AllByRecursion FitsRow rows
   pub apart : AreApart (map rule_given rows)
-  pub table : t ≡ filled [] (map rule_given rows)
+  pub table : IsTableOf (map rule_given rows) t
 
 -- the view and the table that were read, if memory sufficed
 abbrev pub Reads : Result (Viewing × List Rule) FileFault → Viewing → List Rule → Type 0

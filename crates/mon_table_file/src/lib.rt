@@ -9,6 +9,7 @@
 mod filling;
 mod generator;
 mod judging;
+pub mod laws;
 mod lines;
 mod reading;
 mod sections;

@@ -1,7 +1,6 @@
 use Rattle.std.proofs.Common.{◌≡◌, ◌∙◌, List, ap, sym, add-one}
 use Rattle.mon_table.specs.declared.rule.Rule.{Rule}
-use Rattle.mon_table_file.specs.Filling.{added}
-use Rattle.mon_table_file.specs.Generator.{rule_from, number_of, generated}
+use Rattle.mon_table_file.specs.Generator.{rule_from, number_of, added, generated}
 use Rattle.mon_table_file.proofs.Apart.{put-added}
 use Rattle.mon_table_file.proofs.generator.generate.Goals as goal
 

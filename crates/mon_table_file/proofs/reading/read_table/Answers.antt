@@ -1,9 +1,11 @@
-use Rattle.std.proofs.Common.{◌∙◌, ◌≤◌, ap, sym, subst, map, length, [], arith}
+use Rattle.std.proofs.Common.{◌∙◌, ◌≤◌, List, sym, subst, map, length, arith}
 use Rattle.std.proofs.lemmas.Result.{err_from_is_err_and}
-use Rattle.mon_table_file.specs.Filling.{filled, AreApart}
+use Rattle.mon_table.specs.declared.rule.Rule.{Rule}
+use Rattle.mon_table_file.specs.Filling.{AreApart, IsTableOf}
 use Rattle.mon_table_file.specs.Lines.{rule_given}
 use Rattle.mon_table_file.specs.TableFile.{FitsView}
 use Rattle.mon_table_file.specs.Reading.{heading}
+use Rattle.mon_table_file.proofs.Apart.{one-table}
 use Rattle.mon_table_file.proofs.Sheeting.{head_of, file_sheet, sheet_file, bad_sheet, few_rules, same_view}
 use Rattle.mon_table_file.proofs.reading.read_table.Goals as goal
 
@@ -37,8 +39,10 @@ returns-in-Some-2-clause-only c v t f =
     let sheet = c.in_ok-sheet.sheet in
     let same = c.in_ok-sheet.ensures.only (head_of v) v.links (map rule_given f.rows) (file_sheet c.args.text.now v t f) in
     let view = rw c.in-Some.is at c.in_ok-view.ensures in
-    let table = rw c.in-Some-2.is at c.in_ok-table.ensures in
-    (view.0 ∙ same_view (heading sheet.head) sheet.links.items v same.0 same.1, table.1 ∙ ap (filled []) same.2 ∙ sym f.table)
+    let table = rw c.in-Some-2.is at c.in_ok-table.ensures in (
+      view.0 ∙ same_view (heading sheet.head) sheet.links.items v same.0 same.1,
+      one-table (map rule_given f.rows) c.in-Some-2.table t (subst (λ (rs : List Rule). IsTableOf rs c.in-Some-2.table) same.2 table.1) f.table,
+    )
 
 pub returns-in-None-clause-only : goal.returns-in-None-clause-only
 returns-in-None-clause-only c v t f =
