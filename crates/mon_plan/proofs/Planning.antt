@@ -4,11 +4,13 @@ use Rattle.std.specs.Prelude.{IfOk}
 use Rattle.std.specs.Bool.{OnTrue}
 use Rattle.std.proofs.lemmas.List.{take_more, take_all}
 use Rattle.mon_list.specs.Has.{Has}
+use Rattle.mon_header.specs.declared.header.Header.{Header}
 use Rattle.mon_header.specs.Matching.{IsNormal}
 use Rattle.mon_table.specs.declared.rule.Rule.{Rule}
 use Rattle.mon_table.specs.Tables.{IsTable, slice}
 use Rattle.mon_table.proofs.Listing.{has-all}
 use Rattle.mon_table.proofs.Slicing.{slice-tied}
+use Rattle.mon_outcome.specs.declared.emission.Emission.{Emission}
 use Rattle.mon_certificate.specs.declared.certificate.Certificate.{Certificate}
 use Rattle.mon_certificate.specs.declared.certificate.Certificate.TheVariants.{Probe, Nothing, Overlap}
 use Rattle.mon_shows.specs.declared.target.Target.TheVariants.{Watch}
@@ -23,6 +25,14 @@ use Rattle.mon_plan.specs.Planning.{watch_of, job_of, Each, IsCertificate}
 pub watch-asks : (t part : List Rule) (r copy : Rule) → Has t r → part ≡ slice r.matching t → copy ≡ r → IsJob part (Watch copy)
 watch-asks t part r copy i e f =
     subst (λ u. IsJob u (Watch copy)) (sym e) (subst (λ s. IsJob (slice r.matching t) (Watch s)) (sym f) (slice-asks t (Watch r) (record { own = tt; there = i })))
+
+-- a probe and a tie are accepted of it exactly where they are of the whole table
+pub whole-probe : (v : Viewing) (t : List Rule) (r : Rule) (h : Header) (e : Emission) → IsTable t → Has t r
+    → is_accepted (job_of v t r) (Probe h e) ≡ is_accepted (watch_of v t r) (Probe h e)
+whole-probe v t r h e table i = slice-separates v t (Watch r) h e table (has-all (λ s. IsNormal s.matching) t r table.normal i) tt
+
+pub whole-overlap : (v : Viewing) (t : List Rule) (r : Rule) → is_accepted (job_of v t r) Overlap ≡ is_accepted (watch_of v t r) Overlap
+whole-overlap v t r = slice-tied t r
 
 -- what is true of it is true of the rule in the whole table, and the kinds are the same
 pub whole-truth : (v : Viewing) (t : List Rule) (r : Rule) (c : Certificate) → IsTable t → Has t r → IsTrueOf (job_of v t r) c → IsTrueOf (watch_of v t r) c
