@@ -2,11 +2,11 @@
 
 ghost use Rattle.std.specs.Prelude.{◌≡◌, IfOk};
 
-use crate::{Certificate, Certificates, Checked, Summary, check_table, plan_table};
+use crate::{Certificate, Certificates, Checked, Summary, check_table, job_at, plan_table};
 use mon_header::{Action, Actions, Header, Match, OutOfMemory};
 use mon_list::Items;
 use mon_outcome::Emission;
-use mon_shows::{Near, View};
+use mon_shows::{Near, Target, View};
 use mon_table::{Rule, Table};
 use mon_topo::Vids;
 use std::alloc::Global;
@@ -112,6 +112,24 @@ fn crossed(alloc: Global) -> Result<Table, OutOfMemory> {
     Ok(table)
 }
 
+/// Whether the job of the place watches a rule of this priority, among so many rules.
+fn watches(
+    alloc: Global,
+    table: &Table,
+    place: u32,
+    priority: u16,
+    among: u32,
+) -> Result<bool, OutOfMemory> {
+    if place >= table.len() {
+        return Ok(false);
+    }
+    let job = job_at(alloc, &view(alloc)?, table, place)?;
+    match &job.target {
+        Target::Watch { rule } => Ok(rule.priority == priority && job.table.len() == among),
+        _ => Ok(false),
+    }
+}
+
 /// So many certificates of ties.
 fn overlaps(alloc: Global, count: u32) -> Result<Certificates, OutOfMemory> {
     let mut certificates = Items::new(alloc);
@@ -139,11 +157,22 @@ fn probes_are_refused_by_one_bit(rt: HostRuntime) -> Result<(), Fail> {
         ..PROBE
     };
     assert!(rt; of_probe(alloc, elsewhere)? == Checked::Refused(0));
-    let untagged = Header {
+    let other_tag = Header {
         dl_vlan: 101,
         ..PROBE
     };
-    assert!(rt; of_probe(alloc, untagged)? == Checked::Refused(0));
+    assert!(rt; of_probe(alloc, other_tag)? == Checked::Refused(0));
+    Ok(())
+}
+
+#[test]
+fn jobs_watch_the_rules(rt: HostRuntime) -> Result<(), Fail> {
+    let alloc = rt.alloc();
+    let mut table = nested(alloc)?;
+    let _ = table.put(rule(alloc, 0x003220ef, 0, 0x0a000100, 70)?)?;
+    assert!(rt; watches(alloc, &table, 0, 100, 2)?);
+    assert!(rt; watches(alloc, &table, 1, 70, 2)?);
+    assert!(rt; watches(alloc, &table, 2, 50, 3)?);
     Ok(())
 }
 
