@@ -131,8 +131,8 @@ const BAD: [&str; 17] = [
     "monocle-certificates 1\nrules 1\nnone 0 2\nlog 0\n",
     "monocle-certificates 1\nrules 1\nnone 0 0\nlog 0\n",
     "monocle-certificates 1\nrules 1\nnone 0 1\nlog 1\nl 0 0 0\n",
-    // A number beyond 64 bits.
-    "monocle-certificates 1\nrules 18446744073709551616\n",
+    // A hint beyond 64 bits, whose low ones say 3.
+    "monocle-certificates 1\nrules 1\nnone 0 1\nlog 1\nl 0 18446744073709551619 0\n",
 ];
 
 #[test]
