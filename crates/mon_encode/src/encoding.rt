@@ -6,6 +6,7 @@ ghost use Rattle.mon_header.specs.declared.header.Header.{Header};
 ghost use Rattle.mon_table.specs.Tables.{IsTable};
 ghost use Rattle.mon_outcome.specs.declared.emission.Emission.{Emission};
 ghost use Rattle.mon_shows.specs.Separation.{without_update, separates};
+ghost use Rattle.mon_literals.specs.Bearing.{Bears};
 ghost use Rattle.mon_literals.specs.Clauses.{appended};
 ghost use Rattle.mon_encode.specs.Cases.{IsCaseOf, BelongsTo, shape_of};
 ghost use Rattle.mon_encode.specs.Formulas.{clauses_in, clauses_of, formula_of, decoded};
@@ -76,16 +77,17 @@ fn formula(alloc: Global, j: &Job, c: &Case) -> Result<Formula, OutOfMemory>
 }
 
 /// The formula of a case, over the bits of a header and two helper variables for each rule of the table without the
-/// update. An assignment that satisfies it decodes to a header and an emission that separate and belong to the case,
-/// and there is one for each header that separates and belongs to it. A case whose emission can never show anything has
-/// the empty clause alone.
+/// update. An assignment that satisfies it decodes to a header and an emission that separate and belong to the case; and
+/// where a header and an emission do, an assignment that bears the header satisfies it. A case whose emission can never
+/// show anything has the empty clause alone.
 pub fn encode(alloc: Global, j: &Job, c: &Case) -> Result<Formula, OutOfMemory>
     requires { IsCaseOf j.now c.now }
     ensures value { IfOk result (λ f. f ≡ formula_of j.now c.now) }
     ensures sound { (v : ℕ → Bool) → formula_true v (formula_of j.now c.now).clauses ≡ true
-        → separates j.now.view j.now.table j.now.target (decoded j.now c.now v).0 (decoded j.now c.now v).1 ≡ true }
+        → (separates j.now.view j.now.table j.now.target (decoded j.now c.now v).0 (decoded j.now c.now v).1 ≡ true)
+        × BelongsTo j.now c.now (decoded j.now c.now v).0 (decoded j.now c.now v).1 }
     ensures complete { (h : Header) (e : Emission) → separates j.now.view j.now.table j.now.target h e ≡ true
-        → BelongsTo j.now c.now h e → (v : ℕ → Bool) × (formula_true v (formula_of j.now c.now).clauses ≡ true) }
+        → BelongsTo j.now c.now h e → (v : ℕ → Bool) × (formula_true v (formula_of j.now c.now).clauses ≡ true) × Bears v h }
 {
     look_at(j);
     // Only a look at the number shows that it fits.
