@@ -8,7 +8,6 @@ use Rattle.mon_header.specs.declared.header.Header.{Header}
 use Rattle.mon_header.specs.Matching.{IsNormal, matches}
 use Rattle.mon_table.specs.declared.rule.Rule.{Rule}
 use Rattle.mon_table.specs.declared.edit.Edit.{Edit}
-use Rattle.mon_table.specs.declared.edit.Edit.TheVariants as edit
 use Rattle.mon_table.specs.Rules.{Identity, identity_of, rank, same_identity, comes_before}
 use Rattle.mon_table.specs.Tables.{InOrder, IsTable}
 use Rattle.mon_table.specs.Edits.{edited, after}
