@@ -40,7 +40,7 @@ fn push_rule(
 {
     let shapes = rewrites(alloc, &rule.actions, class, in_port)?;
     let count = shapes.items().len();
-    // A position is a `u32`: more emissions have none, long before memory ends.
+    // A position is a `u32`: more emissions have none. Memory ends long before.
     if count > u32::MAX as usize {
         return Err(OutOfMemory);
     }
