@@ -18,7 +18,7 @@ use Rattle.mon_shows.specs.Views.{Viewing}
 use Rattle.mon_job.specs.Jobs.{Task, IsJob}
 use Rattle.mon_job.proofs.Asking.{slice-asks}
 use Rattle.mon_job.proofs.Separating.{slice-separates}
-use Rattle.mon_solve.specs.Accepting.{is_accepted, IsTrueOf, IsItsKind}
+use Rattle.mon_solve.specs.Accepting.{is_accepted, CertificateIsTrue, IsItsKind}
 use Rattle.mon_plan.specs.Planning.{watch_of, job_of, Each, IsCertificate}
 
 -- the job of a rule of the table is one
@@ -35,7 +35,7 @@ pub whole-overlap : (v : Viewing) (t : List Rule) (r : Rule) → is_accepted (jo
 whole-overlap v t r = slice-tied t r
 
 -- what is true of it is true of the rule in the whole table, and the kinds are the same
-pub whole-truth : (v : Viewing) (t : List Rule) (r : Rule) (c : Certificate) → IsTable t → Has t r → IsTrueOf (job_of v t r) c → IsTrueOf (watch_of v t r) c
+pub whole-truth : (v : Viewing) (t : List Rule) (r : Rule) (c : Certificate) → IsTable t → Has t r → CertificateIsTrue (job_of v t r) c → CertificateIsTrue (watch_of v t r) c
 whole-truth v t r (Probe h e) table i y = sym (slice-separates v t (Watch r) h e table (has-all (λ s. IsNormal s.matching) t r table.normal i) tt) ∙ y
 whole-truth v t r (Nothing logs) table i y = λ h e. sym (slice-separates v t (Watch r) h e table (has-all (λ s. IsNormal s.matching) t r table.normal i) tt) ∙ y h e
 whole-truth v t r Overlap table i y = sym (slice-tied t r) ∙ y
@@ -46,26 +46,26 @@ whole-kind v t r (Nothing logs) y = sym (slice-tied t r) ∙ y
 whole-kind v t r Overlap y = sym (slice-tied t r) ∙ y
 
 pub whole-certificate : (v : Viewing) (t : List Rule) (r : Rule) (j : Task) (c : Certificate) → IsTable t → Has t r → j ≡ job_of v t r
-    → is_accepted j c ≡ true → IsTrueOf j c → IsItsKind j c → IsCertificate v t r c
+    → is_accepted j c ≡ true → CertificateIsTrue j c → IsItsKind j c → IsCertificate v t r c
 whole-certificate v t r j c table i e accepted truth kind = record {
   accepted = ap (λ k. is_accepted k c) (sym e) ∙ accepted;
-  truth = whole-truth v t r c table i (subst (λ k. IsTrueOf k c) e truth);
+  truth = whole-truth v t r c table i (subst (λ k. CertificateIsTrue k c) e truth);
   kind = whole-kind v t r c (subst (λ k. IsItsKind k c) e kind);
 }
 
 pub whole-if : (v : Viewing) (t : List Rule) (r : Rule) (j : Task) (c : Certificate) (b : Bool) → IsTable t → Has t r → j ≡ job_of v t r
-    → OnTrue b (IsTrueOf j c) → OnTrue b (IsTrueOf (watch_of v t r) c)
-whole-if v t r j c true table i e y = whole-truth v t r c table i (subst (λ k. IsTrueOf k c) e y)
+    → OnTrue b (CertificateIsTrue j c) → OnTrue b (CertificateIsTrue (watch_of v t r) c)
+whole-if v t r j c true table i e y = whole-truth v t r c table i (subst (λ k. CertificateIsTrue k c) e y)
 whole-if v t r j c false table i e y = y
 
 -- the same of what was answered
 pub answered-certificate : {E : Type 0} (v : Viewing) (t : List Rule) (r : Rule) (j : Task) (o : Result Certificate E) → IsTable t → Has t r → j ≡ job_of v t r
-    → IfOk o (λ c. is_accepted j c ≡ true) → IfOk o (IsTrueOf j) → IfOk o (IsItsKind j) → IfOk o (IsCertificate v t r)
+    → IfOk o (λ c. is_accepted j c ≡ true) → IfOk o (CertificateIsTrue j) → IfOk o (IsItsKind j) → IfOk o (IsCertificate v t r)
 answered-certificate v t r j (Ok c) table i e accepted truth kind = whole-certificate v t r j c table i e accepted truth kind
 answered-certificate v t r j (Err f) table i e accepted truth kind = tt
 
 pub answered-if : {E : Type 0} (v : Viewing) (t : List Rule) (r : Rule) (j : Task) (c : Certificate) (o : Result Bool E) → IsTable t → Has t r → j ≡ job_of v t r
-    → IfOk o (λ b. OnTrue b (IsTrueOf j c)) → IfOk o (λ b. OnTrue b (IsTrueOf (watch_of v t r) c))
+    → IfOk o (λ b. OnTrue b (CertificateIsTrue j c)) → IfOk o (λ b. OnTrue b (CertificateIsTrue (watch_of v t r) c))
 answered-if v t r j c (Ok b) table i e y = whole-if v t r j c b table i e y
 answered-if v t r j c (Err f) table i e y = tt
 

@@ -28,7 +28,7 @@ use Rattle.mon_shows.specs.Views.{Viewing}
 use Rattle.mon_shows.specs.Separation.{is_sure, separates}
 use Rattle.mon_encode.proofs.Covering.{separated, crafted}
 use Rattle.mon_encode.proofs.Updating.{own-winner}
-use Rattle.mon_solve.specs.Accepting.{IsTrueOf}
+use Rattle.mon_solve.specs.Accepting.{CertificateIsTrue}
 use Rattle.mon_plan.specs.Planning.{watch_of, IsCertificate}
 use Rattle.mon_text.proofs.Growing.{all_push}
 
@@ -64,7 +64,7 @@ probe-range v t r h e table i f y =
       emission-range k.class e (must-class r.actions k.class h e f k.is_class sure),
     )
 
-true-range : (v : Viewing) (t : List Rule) (r : Rule) (c : Certificate) → IsTable t → Has t r → AllFit r.actions → IsTrueOf (watch_of v t r) c → IsCertificateInRange c
+true-range : (v : Viewing) (t : List Rule) (r : Rule) (c : Certificate) → IsTable t → Has t r → AllFit r.actions → CertificateIsTrue (watch_of v t r) c → IsCertificateInRange c
 true-range v t r (Probe h e) table i f y = probe-range v t r h e table i f y
 true-range v t r (Nothing logs) table i f y = tt
 true-range v t r Overlap table i f y = tt

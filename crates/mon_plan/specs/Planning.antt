@@ -5,7 +5,7 @@ use Rattle.mon_certificate.specs.declared.certificate.Certificate.{Certificate}
 use Rattle.mon_shows.specs.declared.target.Target.TheVariants.{Watch}
 use Rattle.mon_shows.specs.Views.{Viewing}
 use Rattle.mon_job.specs.Jobs.{Task, sliced}
-use Rattle.mon_solve.specs.Accepting.{is_accepted, IsTrueOf, IsItsKind}
+use Rattle.mon_solve.specs.Accepting.{is_accepted, CertificateIsTrue, IsItsKind}
 
 -- which packet shows the rule in its whole table
 abbrev pub watch_of : Viewing → List Rule → Rule → Task
@@ -26,7 +26,7 @@ Each P (r ∷ t) (c ∷ cs) = P r c × Each P t cs
 -- rule is tied in the whole table
 pub record IsCertificate (v : Viewing) (t : List Rule) (r : Rule) (c : Certificate) : Type 0 where
   pub accepted : is_accepted (job_of v t r) c ≡ true
-  pub truth : IsTrueOf (watch_of v t r) c
+  pub truth : CertificateIsTrue (watch_of v t r) c
   pub kind : IsItsKind (watch_of v t r) c
 
 -- the certificates of a table
@@ -39,4 +39,4 @@ AreAccepted v t cs = Each (λ r c. is_accepted (job_of v t r) c ≡ true) t cs
 
 -- each is true of its rule in the whole table
 abbrev pub AreTrue : Viewing → List Rule → List Certificate → Type 0
-AreTrue v t cs = Each (λ r c. IsTrueOf (watch_of v t r) c) t cs
+AreTrue v t cs = Each (λ r c. CertificateIsTrue (watch_of v t r) c) t cs

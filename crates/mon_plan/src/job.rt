@@ -7,7 +7,7 @@ ghost use Rattle.mon_header.specs.Actions.{AllFit};
 ghost use Rattle.mon_table.specs.declared.rule.Rule.{Rule};
 ghost use Rattle.mon_table.specs.Tables.{IsTable};
 ghost use Rattle.mon_certificate_file.specs.CertificateFile.{IsCertificateInRange};
-ghost use Rattle.mon_solve.specs.Accepting.{is_accepted, IsTrueOf};
+ghost use Rattle.mon_solve.specs.Accepting.{is_accepted, CertificateIsTrue};
 ghost use Rattle.mon_plan.specs.Planning.{watch_of, job_of, IsCertificate};
 
 use crate::view::copied;
@@ -83,7 +83,7 @@ pub(crate) fn accepts(
     requires table { IsTable t.now }
     requires there { Has t.now rule.now }
     ensures value { IfOk result (λ b. b ≡ is_accepted (job_of v.now t.now rule.now) c.now) }
-    ensures truth { IfOk result (λ b. OnTrue b (IsTrueOf (watch_of v.now t.now rule.now) c.now)) }
+    ensures truth { IfOk result (λ b. OnTrue b (CertificateIsTrue (watch_of v.now t.now rule.now) c.now)) }
 {
     let job = job(alloc, v, t, rule)?;
     accept(alloc, &job, c)

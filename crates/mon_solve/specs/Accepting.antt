@@ -39,10 +39,10 @@ abbrev pub NothingSeparates : Task → Type 0
 NothingSeparates j = (h : Header) (e : Emission) → separates j.view j.table j.target h e ≡ false
 
 -- what a certificate says of the job
-abbrev pub IsTrueOf : Task → Certificate → Type 0
-IsTrueOf j (Probe h e) = separates j.view j.table j.target h e ≡ true
-IsTrueOf j (Nothing logs) = NothingSeparates j
-IsTrueOf j Overlap = is_tied j ≡ true
+abbrev pub CertificateIsTrue : Task → Certificate → Type 0
+CertificateIsTrue j (Probe h e) = separates j.view j.table j.target h e ≡ true
+CertificateIsTrue j (Nothing logs) = NothingSeparates j
+CertificateIsTrue j Overlap = is_tied j ≡ true
 
 -- the certificate is of the job's kind: a tie exactly where the rule is tied
 abbrev pub IsItsKind : Task → Certificate → Type 0

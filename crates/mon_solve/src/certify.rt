@@ -5,7 +5,7 @@ ghost use Rattle.std.specs.Bool.{OnTrue};
 ghost use Rattle.mon_job.specs.Jobs.{updated};
 ghost use Rattle.mon_encode.specs.Cases.{cases_of, IsCaseOf};
 ghost use Rattle.mon_solve.specs.Answers.{HasNone};
-ghost use Rattle.mon_solve.specs.Accepting.{is_refuted, are_refuted, is_accepted, is_tied, NothingSeparates, IsTrueOf, IsItsKind};
+ghost use Rattle.mon_solve.specs.Accepting.{is_refuted, are_refuted, is_accepted, is_tied, NothingSeparates, CertificateIsTrue, IsItsKind};
 
 use crate::found::{Found, find};
 use mon_certificate::Certificate;
@@ -37,7 +37,7 @@ fn is_tied(j: &Job) -> bool
 fn search(alloc: Global, j: &Job) -> Result<Certificate, OutOfMemory>
     requires { is_tied j.now ≡ false }
     ensures accepted { IfOk result (λ c. is_accepted j.now c ≡ true) }
-    ensures truth { IfOk result (IsTrueOf j.now) }
+    ensures truth { IfOk result (CertificateIsTrue j.now) }
     ensures kind { IfOk result (IsItsKind j.now) }
 {
     let cases = cases(alloc, j)?;
@@ -55,7 +55,7 @@ fn search(alloc: Global, j: &Job) -> Result<Certificate, OutOfMemory>
 /// none.
 pub fn certificate(alloc: Global, j: &Job) -> Result<Certificate, OutOfMemory>
     ensures accepted { IfOk result (λ c. is_accepted j.now c ≡ true) }
-    ensures truth { IfOk result (IsTrueOf j.now) }
+    ensures truth { IfOk result (CertificateIsTrue j.now) }
     ensures kind { IfOk result (IsItsKind j.now) }
 {
     if is_tied(j) {
@@ -96,7 +96,7 @@ fn are_refuted(alloc: Global, j: &Job, logs: &[Log]) -> Result<bool, OutOfMemory
 /// Whether the certificate of the job is accepted. What is accepted is true of the job.
 pub fn accept(alloc: Global, j: &Job, c: &Certificate) -> Result<bool, OutOfMemory>
     ensures exact { IfOk result (λ b. b ≡ is_accepted j.now c.now) }
-    ensures truth { IfOk result (λ b. OnTrue b (IsTrueOf j.now c.now)) }
+    ensures truth { IfOk result (λ b. OnTrue b (CertificateIsTrue j.now c.now)) }
 {
     match c {
         Certificate::Probe(h, e) => Ok(separates(&j.view, &j.table, &j.target, h, e)),

@@ -1,5 +1,5 @@
 use Rattle.std.proofs.Common.{◌≡◌, ap, ◌∙◌, sym, arith}
-use Rattle.mon_solve.specs.Accepting.{IsTrueOf}
+use Rattle.mon_solve.specs.Accepting.{CertificateIsTrue}
 use Rattle.mon_plan.specs.Planning.{watch_of}
 use Rattle.mon_plan.specs.declared.check.Checked.TheVariants.{Refused}
 use Rattle.mon_plan.specs.Checking.{checked}
@@ -20,7 +20,7 @@ loop-place-preserved c =
     record {
       value = accepted-more c.args.v.now c.args.t.now _ c.loop-place.place _ _ _ (omega (arith, c.loop-place-test.true, c.len-size.ensures.value)) c.if-place-certificates.false
           c.rule.ensures c.index-certificates-place.is (sym c.in_ok-accepts.ensures.value ∙ c.if-not-branch.false) c.loop-place.invariant.value;
-      truth = each-both (λ r d. IsTrueOf (watch_of c.args.v.now c.args.t.now r) d) c.args.t.now _ c.loop-place.place _ _ (omega (arith, c.loop-place-test.true, c.len-size.ensures.value)) c.if-place-certificates.false
+      truth = each-both (λ r d. CertificateIsTrue (watch_of c.args.v.now c.args.t.now r) d) c.args.t.now _ c.loop-place.place _ _ (omega (arith, c.loop-place-test.true, c.len-size.ensures.value)) c.if-place-certificates.false
           c.rule.ensures c.index-certificates-place.is c.loop-place.invariant.truth (true-if _ _ c.if-not-branch.false c.in_ok-accepts.ensures.truth);
     }
 
