@@ -1,5 +1,6 @@
 -- What is answered to a job, and what was asked for it.
 use Rattle.std.specs.Prelude.{◌≡◌, ℕ, ◌+◌, ◌≤◌, true, false, length, Option, Some, None}
+use Rattle.std.specs.List.{slice_get}
 use Rattle.mon_header.specs.declared.header.Header.{Header}
 use Rattle.mon_outcome.specs.declared.emission.Emission.{Emission}
 use Rattle.mon_refute.specs.Follow.{is_accepted}
@@ -20,24 +21,33 @@ seen_in Indistinguishable = None
 seen_in (Skipped seen) = Some seen
 seen_in NoMemory = None
 
--- how often a stop was asked for an answer, at least: before each case where there is no probe, else once
-abbrev pub least_asked : Task → Says → ℕ
-least_asked j (Probe h e) = 1
-least_asked j Indistinguishable = length (cases_of j)
-least_asked j (Skipped seen) = 1
-least_asked j NoMemory = 0
-
--- a stop that tells how often it was asked was asked that often
+-- a stop that tells how often it was asked was asked that often, at least
 abbrev pub AskedAtLeast : ℕ → Option ℕ → Option ℕ → Type 0
 AskedAtLeast least None now = Unit {0}
 AskedAtLeast least (Some before) None = ⊥
 AskedAtLeast least (Some before) (Some now) = before + least ≤ now
 
+-- a stop was asked at least as often as there are cases up to one to which the header and the emission belong
+pub record AskedUpTo (j : Task) (h : Header) (e : Emission) (before now : Option ℕ) : Type 0 where
+  pub place : ℕ
+  pub case : Case
+  pub there : slice_get (cases_of j) place ≡ Some case
+  pub belongs : BelongsTo j case h e
+  pub asked : AskedAtLeast (place + 1) before now
+
+-- how often a stop was asked for an answer, at least: as often as there are cases up to one to which the probe belongs, or
+-- cases at all where there is none
+abbrev pub AskedFor : Task → Says → Option ℕ → Option ℕ → Type 0
+AskedFor j (Probe h e) before now = AskedUpTo j h e before now
+AskedFor j Indistinguishable before now = AskedAtLeast (length (cases_of j)) before now
+AskedFor j (Skipped seen) before now = AskedAtLeast 1 before now
+AskedFor j NoMemory before now = AskedAtLeast 0 before now
+
 -- the case has no probe
 abbrev pub HasNone : Task → Case → Type 0
 HasNone j c = (h : Header) (e : Emission) → BelongsTo j c h e → separates j.view j.table j.target h e ≡ false
 
--- what is found in a case: a probe, or a refutation of its clauses, and it has none
+-- what is found in a case: a probe of it, or a refutation of its clauses, and it has none
 abbrev pub IsFound : Task → Case → Found → Type 0
-IsFound j c (found.Probe h e) = separates j.view j.table j.target h e ≡ true
+IsFound j c (found.Probe h e) = (separates j.view j.table j.target h e ≡ true) × BelongsTo j c h e
 IsFound j c (found.Nothing log) = (is_accepted (formula_of j c).vars (formula_of j c).clauses log ≡ true) × HasNone j c

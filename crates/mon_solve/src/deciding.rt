@@ -3,7 +3,7 @@
 ghost use Rattle.std.specs.Prelude.{◌≡◌, None};
 ghost use Rattle.std.specs.Arc.{arc_value};
 ghost use Rattle.mon_job.specs.Verdicts.{IsTrueOf};
-ghost use Rattle.mon_solve.specs.Answers.{AskedAtLeast, least_asked, seen_in};
+ghost use Rattle.mon_solve.specs.Answers.{AskedFor, seen_in};
 
 use crate::found::{Found, find};
 use crate::stop::Stop;
@@ -18,7 +18,7 @@ fn answer<S: Stop>(alloc: Global, job: &Job, stop: &mut S) -> Says
     requires floor { S.floor stop.old ≡ job.now.version }
     ensures truth { IsTrueOf job.now result }
     ensures shown { S.shown stop.new ≡ seen_in result }
-    ensures asked { AskedAtLeast (least_asked job.now result) (S.asked stop.old) (S.asked stop.new) }
+    ensures asked { AskedFor job.now result (S.asked stop.old) (S.asked stop.new) }
 {
     let Ok(cases) = cases(alloc, job) else {
         return Says::NoMemory;
@@ -36,14 +36,15 @@ fn answer<S: Stop>(alloc: Global, job: &Job, stop: &mut S) -> Says
     Says::Indistinguishable
 }
 
-/// The verdict on the job. The stop is asked before each case of the job, and the job is skipped where it gives a
-/// version, and only there. Where there is no memory, that is the verdict.
+/// The verdict on the job. The stop is asked before each case is searched; of this the clauses say that it is asked at
+/// least as often as there are cases up to one to which the probe belongs, or cases at all where there is no probe. The
+/// job is skipped where the stop's last answer is a version, and only there. Where there is no memory, that is the verdict.
 pub fn decide<S: Stop>(alloc: Global, job: Arc<Job>, stop: &mut S) -> Verdict
     requires unshown { S.shown stop.old ≡ None }
     requires floor { S.floor stop.old ≡ (arc_value job).version }
     ensures same_job { result.job ≡ arc_value job }
     ensures skipped { S.shown stop.new ≡ seen_in result.says }
-    ensures asked { AskedAtLeast (least_asked result.job result.says) (S.asked stop.old) (S.asked stop.new) }
+    ensures asked { AskedFor result.job result.says (S.asked stop.old) (S.asked stop.new) }
 {
     let says = answer(alloc, &job, stop);
     Verdict::new(job, says)

@@ -164,6 +164,33 @@ impl Stop for Overtaken {
     }
 }
 
+/// A stop that counts how often it is asked, and from one ask on gives the next version.
+#[derive(Drop)]
+struct Counting {
+    floor: u64,
+    asks: u32,
+    first: u32,
+    shown: Option<u64>,
+}
+
+impl Stop for Counting {
+    ghost floor = { λ s. s.floor };
+
+    ghost shown = { λ s. s.shown };
+
+    ghost asked = { λ _. None };
+
+    fn ask(&mut self) -> Option<u64> {
+        self.asks = self.asks.saturating_add(1);
+        if self.asks < self.first {
+            self.shown = None;
+            return None;
+        }
+        self.shown = self.floor.checked_add(1);
+        self.shown
+    }
+}
+
 #[test]
 fn a_rule_that_is_seen_has_a_probe(rt: HostRuntime) -> Result<(), Fail> {
     let alloc = rt.alloc();
@@ -225,5 +252,38 @@ fn an_overtaken_job_is_skipped(rt: HostRuntime) -> Result<(), Fail> {
     let verdict = decide(alloc, job, &mut stop);
     assert!(rt; matches!(verdict.says(), Says::Skipped { seen: 8 }));
     assert!(rt; stop.shown == Some(8));
+    Ok(())
+}
+
+#[test]
+fn a_job_is_skipped_at_a_later_case(rt: HostRuntime) -> Result<(), Fail> {
+    let alloc = rt.alloc();
+    // It has five cases, of which none has a probe: so there is a third ask.
+    let job = Arc::new(alloc, unseen(alloc)?)?;
+    let mut stop = Counting {
+        floor: 7,
+        asks: 0,
+        first: 3,
+        shown: None,
+    };
+    let verdict = decide(alloc, job, &mut stop);
+    assert!(rt; matches!(verdict.says(), Says::Skipped { seen: 8 }));
+    assert!(rt; stop.asks == 3);
+    Ok(())
+}
+
+#[test]
+fn a_stop_is_asked_once_a_case(rt: HostRuntime) -> Result<(), Fail> {
+    let alloc = rt.alloc();
+    let job = Arc::new(alloc, unseen(alloc)?)?;
+    let mut stop = Counting {
+        floor: 7,
+        asks: 0,
+        first: 6,
+        shown: None,
+    };
+    let verdict = decide(alloc, job, &mut stop);
+    assert!(rt; matches!(verdict.says(), Says::Indistinguishable));
+    assert!(rt; stop.asks == 5);
     Ok(())
 }
