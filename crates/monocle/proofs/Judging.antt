@@ -1,5 +1,6 @@
--- What a file that is no table says of its source, and what a check of both files does.
-use Rattle.std.proofs.Common.{◌≡◌, ◌≢◌, ◌<◌, ℕ, List, Option, Some, None, IfSome, subst, sym}
+-- What is said of a file that is no table, and what a check of both files does.
+use Rattle.std.proofs.Common.{◌≡◌, ◌<◌, ℕ, List, Option, Some, None, IfSome, inl, inr, refl, subst, sym}
+use Rattle.std.specs.Prelude.{codes}
 use Rattle.mon_table.specs.declared.rule.Rule.{Rule}
 use Rattle.mon_shows.specs.Views.{Viewing}
 use Rattle.mon_certificate.specs.declared.certificate.Certificate.{Certificate}
@@ -8,15 +9,26 @@ use Rattle.mon_table_file.specs.TableFile.{IsTableFile}
 use Rattle.mon_plan.specs.Checking.{checked}
 use Rattle.mon_words.specs.declared.command.Source.{Source}
 use Rattle.mon_words.specs.declared.command.Source.TheVariants.{File}
-use Rattle.mon_world.specs.Files.{with_more}
+use Rattle.mon_world.specs.Files.{with_more, AllOrNothing}
 use Rattle.monocle.specs.Planning.{Contents, Gives, GivesNone, IsCheck, checked_text, status_of}
-use Rattle.monocle.specs.Running.{Checks}
+use Rattle.monocle.specs.Running.{WritesPrefix, Checks}
+use Rattle.monocle.specs.Saying.{Says, IsSourceText}
 
 pub no-table : (told : Option Contents) (name text read : List ℕ) → IfSome told (λ files. files name ≡ Some text) → read ≡ text
     → ((v : Viewing) (t : List Rule) → IsTableFile read v t → ⊥) → IfSome told (λ files. GivesNone files (File name))
 no-table None name text read content same none = content
 no-table (Some files) name text read content same none =
     (text, content, subst (λ bytes. (v : Viewing) (t : List Rule) → IsTableFile bytes v t → ⊥) same none)
+
+pub no-table-is-said : (told : Option Contents) (name text read : List ℕ) (status : ℕ) (before silent now : Option (List ℕ))
+    → IfSome told (λ files. files name ≡ Some text) → read ≡ text → ((v : Viewing) (t : List Rule) → IsTableFile read v t → ⊥)
+    → status ≡ 5 → silent ≡ before → AllOrNothing (codes "monocle: table\n") silent now
+    → Says (IsSourceText told (File name)) status before now
+no-table-is-said told name text read status before silent now content same none five quiet said = (
+  codes "monocle: table\n",
+  inr (inl (five, refl, no-table told name text read content same none)),
+  subst (λ told. AllOrNothing (codes "monocle: table\n") told now) quiet said,
+)
 
 -- what is checked is checked, whether or not it can be written
 pub is-check : (told : Option Contents) (source : Source) (name text read : List ℕ) (v : Viewing) (t : List Rule) (cs : List Certificate) (due : ℕ) (bytes : List ℕ)
@@ -29,15 +41,13 @@ is-check (Some files) source name text read v t cs due bytes gives content same 
 
 pub check-runs : (told : Option Contents) (source : Source) (name : List ℕ) (due status : ℕ) (bytes : List ℕ) (before now : Option (List ℕ))
     → IfSome told (λ files. IsCheck files source name due bytes)
-    → (status < 2 → status ≡ due) → (status < 2 → now ≡ with_more bytes before) → status ≢ 5
+    → (status < 2 → status ≡ due) → (status < 2 → now ≡ with_more bytes before) → (status ≡ 6 → WritesPrefix bytes before now)
     → Checks told source name status before now
-check-runs None source name due status bytes before now is done written other = record {
+check-runs None source name due status bytes before now is done written prefix = record {
   written = λ _. is;
-  bad = λ _. is;
-  judged = λ _. is;
+  prefix = λ _. is;
 }
-check-runs (Some files) source name due status bytes before now is done written other = record {
+check-runs (Some files) source name due status bytes before now is done written prefix = record {
   written = λ low. (bytes, subst (λ n. IsCheck files source name n bytes) (sym (done low)) is, written low);
-  bad = λ five. absurd (other five);
-  judged = λ _. (due, bytes, is);
+  prefix = λ six. (due, bytes, is, prefix six);
 }

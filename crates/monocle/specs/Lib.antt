@@ -1,4 +1,4 @@
-pub mod Replay
 pub mod Planning
+pub mod Replay
 pub mod Saying
 pub mod Running

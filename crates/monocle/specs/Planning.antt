@@ -47,6 +47,10 @@ abbrev pub IsPlan : Bool → Viewing → List Rule → List ℕ → Type 0
 IsPlan false v t bytes = (s : Summary) × IsSummary v t s × (bytes ≡ summary_text s)
 IsPlan true v t bytes = (cs : List Certificate) × AreCertificates v t cs × Spells bytes cs
 
+-- what a plan of the source's table writes
+abbrev pub IsPlanOf : Contents → Source → Bool → List ℕ → Type 0
+IsPlanOf files source certificates bytes = (v : Viewing) × (t : List Rule) × Gives files source v t × IsPlan certificates v t bytes
+
 -- what is written of certificates that were checked
 abbrev pub checked_text : Checked → List ℕ
 checked_text (Accepted n) = count_line (codes "accepted") n

@@ -1,5 +1,5 @@
 -- What `replay` writes.
-use Rattle.std.specs.Prelude.{◌≡◌, ℕ, List, [], ◌∷◌, ◌++◌, Some, reverse}
+use Rattle.std.specs.Prelude.{◌≡◌, ℕ, List, [], ◌∷◌, ◌++◌, Some, None, reverse}
 use Rattle.mon_world.specs.declared.event.Event.{Event}
 use Rattle.mon_world.specs.declared.event.Event.TheVariants.{Stop}
 use Rattle.mon_world.specs.declared.history.Entry.{Entry}
@@ -10,6 +10,7 @@ use Rattle.mon_core.specs.Streams.{AtTurnEnds, IsPassed, armed_in}
 use Rattle.mon_trace.specs.Grammar.{Traced, trace_of}
 use Rattle.mon_trace.specs.Run.{text}
 use Rattle.mon_trace.specs.TableLines.{table_lines}
+use Rattle.monocle.specs.Planning.{Contents}
 
 -- the history of a run of these events, in order and then Stop: at each turn's end each frame that came had its fate, in
 -- order, and nothing else was put, and a session was ended exactly at the first fault
@@ -31,3 +32,11 @@ answer_of h = text h ++ lines_of_tables (armed_in h)
 -- what a run of the trace's events gives
 abbrev pub IsAnswer : List ℕ → List ℕ → Type 0
 IsAnswer trace bytes = (traced : Traced) × (trace_of trace ≡ Some traced) × (h : List Entry) × IsRunOf traced.events h × (bytes ≡ answer_of h)
+
+-- what a replay of the file of this name writes
+abbrev pub IsReplay : Contents → List ℕ → List ℕ → Type 0
+IsReplay files name bytes = (trace : List ℕ) × (files name ≡ Some trace) × IsAnswer trace bytes
+
+-- the file of this name is no trace
+abbrev pub IsNoTrace : Contents → List ℕ → Type 0
+IsNoTrace files name = (trace : List ℕ) × (files name ≡ Some trace) × (trace_of trace ≡ None)

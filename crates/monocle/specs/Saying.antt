@@ -1,11 +1,13 @@
 -- What the program says at each status.
-use Rattle.std.specs.Prelude.{◌≡◌, ℕ, List, [], ◌∷◌, ◌++◌, Option, ◌⊎◌, codes}
+use Rattle.std.specs.Prelude.{◌≡◌, ℕ, List, [], ◌∷◌, ◌++◌, Option, IfSome, ◌⊎◌, codes}
 use Rattle.mon_words.specs.declared.command.Command.{Command}
 use Rattle.mon_words.specs.declared.command.Command.TheVariants as command
 use Rattle.mon_words.specs.declared.command.Source.{Source}
 use Rattle.mon_words.specs.declared.command.Source.TheVariants.{File, Generate}
 use Rattle.mon_words.specs.Words.{Spells}
 use Rattle.mon_world.specs.Files.{AllOrNothing}
+use Rattle.monocle.specs.Replay.{IsNoTrace}
+use Rattle.monocle.specs.Planning.{Contents, GivesNone, HasNoCertificates}
 
 -- a file of this name can't be read
 abbrev pub unread : List ℕ → List ℕ
@@ -22,8 +24,9 @@ IsQuiet good status text = (status ≡ good) × (text ≡ [])
 abbrev pub IsUnread : List ℕ → ℕ → List ℕ → Type 0
 IsUnread name status text = (status ≡ 3) × (text ≡ unread name)
 
-abbrev pub IsBad : List ℕ → ℕ → List ℕ → Type 0
-IsBad line status text = (status ≡ 5) × (text ≡ line)
+-- this line is said of files of which this holds
+abbrev pub IsBad : List ℕ → Option Contents → (Contents → Type 0) → ℕ → List ℕ → Type 0
+IsBad line told cause status text = (status ≡ 5) × (text ≡ line) × IfSome told cause
 
 abbrev pub IsUnwritten : ℕ → List ℕ → Type 0
 IsUnwritten status text = (status ≡ 6) × (text ≡ codes "monocle: cannot write\n")
@@ -40,23 +43,29 @@ abbrev pub IsWriteText : ℕ → ℕ → List ℕ → Type 0
 IsWriteText good status text = IsQuiet good status text ⊎ (IsUnwritten status text ⊎ IsWant status text)
 
 -- where a source gives no table
-abbrev pub IsSourceText : Source → ℕ → List ℕ → Type 0
-IsSourceText (File name) status text = IsUnread name status text ⊎ (IsBad (codes "monocle: table\n") status text ⊎ IsWant status text)
-IsSourceText (Generate n seed) status text = IsWant status text
+abbrev pub IsSourceText : Option Contents → Source → ℕ → List ℕ → Type 0
+IsSourceText told (File name) status text =
+    IsUnread name status text
+    ⊎ (IsBad (codes "monocle: table\n") told (λ files. GivesNone files (File name)) status text
+    ⊎ IsWant status text)
+IsSourceText told (Generate n seed) status text = IsWant status text
 
--- of a command
-abbrev pub IsTextOf : Command → ℕ → List ℕ → Type 0
-IsTextOf (command.Replay settings trace) status text =
-    IsUnread settings status text ⊎ (IsUnread trace status text ⊎ (IsBad (codes "monocle: trace\n") status text ⊎ IsWriteText 0 status text))
-IsTextOf (command.Plan source workers certificates) status text = IsSourceText source status text ⊎ IsWriteText 0 status text
-IsTextOf (command.Check source certificates) status text =
-    IsSourceText source status text
+-- of a command, by what the desk tells of its files
+abbrev pub IsTextOf : Option Contents → Command → ℕ → List ℕ → Type 0
+IsTextOf told (command.Replay settings trace) status text =
+    IsUnread settings status text
+    ⊎ (IsUnread trace status text
+    ⊎ (IsBad (codes "monocle: trace\n") told (λ files. IsNoTrace files trace) status text
+    ⊎ IsWriteText 0 status text))
+IsTextOf told (command.Plan source workers certificates) status text = IsSourceText told source status text ⊎ IsWriteText 0 status text
+IsTextOf told (command.Check source certificates) status text =
+    IsSourceText told source status text
     ⊎ (IsUnread certificates status text
-    ⊎ (IsBad (codes "monocle: certificates\n") status text
+    ⊎ (IsBad (codes "monocle: certificates\n") told (λ files. HasNoCertificates files source certificates) status text
     ⊎ (IsQuiet 1 status text ⊎ IsWriteText 0 status text)))
 
 -- of words
-abbrev pub IsTextFor : List (List ℕ) → ℕ → List ℕ → Type 0
-IsTextFor words status text =
+abbrev pub IsTextFor : Option Contents → List (List ℕ) → ℕ → List ℕ → Type 0
+IsTextFor told words status text =
     ((status ≡ 2) × (text ≡ codes "monocle: bad words\n"))
-    ⊎ (IsWant status text ⊎ ((c : Command) × Spells c words × IsTextOf c status text))
+    ⊎ (IsWant status text ⊎ ((c : Command) × Spells c words × IsTextOf told c status text))

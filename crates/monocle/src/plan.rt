@@ -59,7 +59,7 @@ pub fn plan<D: Desk>(
     ensures unwritten { result ≢ 0 → result ≢ 6 → D.written desk.new ≡ D.written desk.old }
     ensures read { result ≡ 3 → Rose (D.read_faults desk.old) (D.read_faults desk.new) }
     ensures write { result ≡ 6 → Rose (D.write_faults desk.old) (D.write_faults desk.new) }
-    ensures said { Says (IsTextOf (Command.Plan source.now workers certificates)) result (D.said desk.old) (D.said desk.new) }
+    ensures said { Says (IsTextOf (D.files desk.old) (Command.Plan source.now workers certificates)) result (D.said desk.old) (D.said desk.new) }
     ensures words { result ≢ 2 }
 {
     let (view, table) = match table_of(alloc, source, desk) {

@@ -42,11 +42,11 @@ pub fn replay<D: Desk>(alloc: Global, settings: &str, trace: &str, desk: &mut D)
     // What is written at status 0 is the text of a legal history of the trace's events, and behind it the expected
     // entries of each session that has not ended.
     ensures run { Replays (D.files desk.old) trace.now result (D.written desk.old) (D.written desk.new) }
-    // Nothing is written at another status, but for a part where writing failed.
+    // Nothing is written at another status, but for a prefix of that where writing failed.
     ensures unwritten { result ≢ 0 → result ≢ 6 → D.written desk.new ≡ D.written desk.old }
     ensures read { result ≡ 3 → Rose (D.read_faults desk.old) (D.read_faults desk.new) }
     ensures write { result ≡ 6 → Rose (D.write_faults desk.old) (D.write_faults desk.new) }
-    ensures said { Says (IsTextOf (Command.Replay settings.now trace.now)) result (D.said desk.old) (D.said desk.new) }
+    ensures said { Says (IsTextOf (D.files desk.old) (Command.Replay settings.now trace.now)) result (D.said desk.old) (D.said desk.new) }
     ensures words { result ≢ 2 }
 {
     match content_of(alloc, settings, desk) {

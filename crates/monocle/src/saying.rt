@@ -1,9 +1,10 @@
 //! What the program reads, writes and says.
 
-ghost use Rattle.std.specs.Prelude.{◌≡◌, ◌≢◌, ◌≤◌, ◌<◌, Some, IfSome, IfOk, OnOk, IsErrOf};
+ghost use Rattle.std.specs.Prelude.{◌≡◌, ◌≤◌, ◌<◌, Some, IfSome, IfOk, OnOk, IsErrOf};
 ghost use Rattle.std.specs.Result.{IfErr};
 ghost use Rattle.mon_world.specs.Causes.{Rose};
 ghost use Rattle.mon_world.specs.Files.{with_more, AllOrNothing};
+ghost use Rattle.monocle.specs.Running.{WritesPrefix};
 ghost use Rattle.monocle.specs.Saying.{Says, IsReadText, IsWriteText, unread};
 
 use mon_world::{Desk, DeskFault};
@@ -60,8 +61,8 @@ pub(crate) fn put<D: Desk>(alloc: Global, bytes: &[u8], status: u8, desk: &mut D
     requires { status < 2 }
     ensures said { Says (IsWriteText status) result (D.said desk.old) (D.said desk.new) }
     ensures done { result < 2 → result ≡ status }
-    ensures outcomes { result ≢ 5 }
     ensures written { result < 2 → D.written desk.new ≡ with_more bytes.now (D.written desk.old) }
+    ensures prefix { result ≡ 6 → WritesPrefix bytes.now (D.written desk.old) (D.written desk.new) }
     ensures unwritten { result ≡ 7 → D.written desk.new ≡ D.written desk.old }
     ensures write { result ≡ 6 → Rose (D.write_faults desk.old) (D.write_faults desk.new) }
     ensures files { D.files desk.new ≡ D.files desk.old }

@@ -6,7 +6,7 @@ ghost use Rattle.mon_world.specs.Causes.{Rose};
 ghost use Rattle.mon_table.specs.declared.rule.Rule.{Rule};
 ghost use Rattle.mon_shows.specs.Views.{Viewing};
 ghost use Rattle.mon_table_file.specs.TableFile.{IsTableFile};
-ghost use Rattle.monocle.specs.Planning.{Gives, GivesNone};
+ghost use Rattle.monocle.specs.Planning.{Gives};
 ghost use Rattle.monocle.specs.Saying.{Says, IsSourceText};
 
 use crate::saying::{content_of, refused};
@@ -34,9 +34,8 @@ pub(crate) fn table_of<D: Desk>(
 ) -> Result<(View, Table), u8>
     ensures gives { IfOk result (λ x. IfSome (D.files desk.old) (λ files. Gives files source.now x.0 x.1)) }
     ensures silent { OnOk result (D.said desk.new ≡ D.said desk.old) }
-    ensures said { IfErr result (λ status. Says (IsSourceText source.now) status (D.said desk.old) (D.said desk.new)) }
+    ensures said { IfErr result (λ status. Says (IsSourceText (D.files desk.old) source.now) status (D.said desk.old) (D.said desk.new)) }
     ensures read { IsErrOf result 3 → Rose (D.read_faults desk.old) (D.read_faults desk.new) }
-    ensures bad { IsErrOf result 5 → IfSome (D.files desk.old) (λ files. GivesNone files source.now) }
     ensures files { D.files desk.new ≡ D.files desk.old }
     ensures written { D.written desk.new ≡ D.written desk.old }
     ensures reads { D.read_faults desk.old ≤ D.read_faults desk.new }

@@ -24,7 +24,7 @@ pub fn monocle<D: Desk>(alloc: Global, words: &[Text], desk: &mut D) -> u8
     ensures unwritten { result ≢ 0 → result ≢ 1 → result ≢ 6 → D.written desk.new ≡ D.written desk.old }
     ensures read { result ≡ 3 → Rose (D.read_faults desk.old) (D.read_faults desk.new) }
     ensures write { result ≡ 6 → Rose (D.write_faults desk.old) (D.write_faults desk.new) }
-    ensures said { Says (IsTextFor words.now) result (D.said desk.old) (D.said desk.new) }
+    ensures said { Says (IsTextFor (D.files desk.old) words.now) result (D.said desk.old) (D.said desk.new) }
 {
     match read_words(alloc, words) {
         Ok(Command::Replay { settings, trace }) => {

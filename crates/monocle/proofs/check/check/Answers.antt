@@ -1,5 +1,6 @@
 use Rattle.std.proofs.Common.{◌≡◌, Some, IfSome, subst, ap, ◌∙◌}
 use Rattle.mon_world.specs.Files.{with_more}
+use Rattle.monocle.specs.Running.{WritesPrefix}
 use Rattle.monocle.proofs.Judging.{is-check, check-runs}
 use Rattle.monocle.proofs.check.check.Goals as goal
 
@@ -13,4 +14,5 @@ returns-in-Ok-judged-clause-run g c =
     c.deref.ensures.value c.in-Ok-certificates_in.ensures.found c.in-Ok-judged.ensures.status (c.as_bytes.ensures.value ∙ c.in-Ok-judged.ensures.text))
     c.put.ensures.done
     (λ low. c.put.ensures.written low ∙ ap (with_more c.as_bytes.result.now) (c.in-Ok-content_of.ensures.written ∙ c.in-Ok.ensures.written))
-    c.put.ensures.outcomes
+    (λ six. subst (λ told. WritesPrefix c.as_bytes.result.now told (g.D.Desk.written c.put.new.desk)) (c.in-Ok-content_of.ensures.written ∙ c.in-Ok.ensures.written)
+    (c.put.ensures.prefix six))
