@@ -8,7 +8,7 @@
 
 mod check;
 #[cfg(test)]
-mod mod_tests;
+mod flow_mod_tests;
 mod plan;
 #[cfg(test)]
 mod planning_tests;

@@ -1,6 +1,6 @@
 //! Plans and checks over a desk in memory.
 
-use crate::runs::{ends, fails_reading, fails_writing, files_of, writes};
+use crate::runs::{ends, ends_without_read, fails_reading, fails_writing, files_of, writes};
 use mon_world::NamedFiles;
 use std::alloc::Global;
 use std::test::Fail;
@@ -168,6 +168,15 @@ fn certificates_out_of_form_are_refused(rt: HostRuntime) -> Result<(), Fail> {
     let short = "monocle-certificates 1\nrules 1\n";
     let said = "monocle: certificates\n";
     assert!(rt; over(rt.alloc(), CHECK, &table, short, 5, "", said)?);
+    Ok(())
+}
+
+#[test]
+fn a_table_is_judged_before_certificates_are_read(rt: HostRuntime) -> Result<(), Fail> {
+    let alloc = rt.alloc();
+    let table = "monocle-table 1\n";
+    let files = files_of(alloc, "one.table", table, "one.certificates", TIES)?;
+    assert!(rt; ends_without_read(alloc, CHECK, files, 1, 5, "monocle: table\n")?);
     Ok(())
 }
 

@@ -77,6 +77,22 @@ pub(crate) fn writes(alloc: Global, words: &str) -> Result<Option<String>, Fail>
     Ok(text.ok())
 }
 
+/// Whether a run over these files, of which the read of this number would fail, ends with this status, says this and
+/// writes nothing.
+pub(crate) fn ends_without_read(
+    alloc: Global,
+    words: &str,
+    files: NamedFiles,
+    place: u64,
+    status: u8,
+    said: &str,
+) -> Result<bool, Fail> {
+    let reads = place_of(alloc, place)?;
+    let desk = MemoryDesk::new(alloc, files, reads, Places::new(alloc));
+    let (ended, desk) = ran(alloc, words, desk)?;
+    Ok(ended == status && desk.written().is_empty() && desk.said() == said.as_bytes())
+}
+
 /// Whether a run over these files whose read of this number fails ends with 3, says this and writes nothing.
 pub(crate) fn fails_reading(
     alloc: Global,
@@ -85,16 +101,17 @@ pub(crate) fn fails_reading(
     place: u64,
     said: &str,
 ) -> Result<bool, Fail> {
-    let reads = place_of(alloc, place)?;
-    let desk = MemoryDesk::new(alloc, files, reads, Places::new(alloc));
-    let (ended, desk) = ran(alloc, words, desk)?;
-    Ok(ended == 3 && desk.written().is_empty() && desk.said() == said.as_bytes())
+    ends_without_read(alloc, words, files, place, 3, said)
 }
 
-/// Whether a run over these files whose first write fails ends with 6 and says so.
+/// Whether a run over these files whose first write fails ends with 6, says so and writes nothing.
 pub(crate) fn fails_writing(alloc: Global, words: &str, files: NamedFiles) -> Result<bool, Fail> {
     let writes = place_of(alloc, 0)?;
     let desk = MemoryDesk::new(alloc, files, Places::new(alloc), writes);
     let (ended, desk) = ran(alloc, words, desk)?;
-    Ok(ended == 6 && desk.said() == "monocle: cannot write\n".as_bytes())
+    Ok(
+        ended == 6
+            && desk.written().is_empty()
+            && desk.said() == "monocle: cannot write\n".as_bytes(),
+    )
 }
