@@ -125,6 +125,8 @@ fn refuses_each_other_form(rt: HostRuntime) -> Result<(), Fail> {
         "plan --generate 4 --seed 00",
         "plan --generate 4 --seed 4294967303",
         "plan --generate 4 --seed 7 t",
+        "plan --generate 4 --seed 7 --generate=4",
+        "plan --generate 4 --seed 7 --seed 7",
         "plan t -- --workers 1",
         "check t",
         "check t c d",
