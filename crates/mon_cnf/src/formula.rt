@@ -1,6 +1,6 @@
 //! Formulas of clauses.
 
-ghost use Rattle.std.specs.Prelude.{◌≡◌, ◌<◌, ◌++◌, ◌∷◌, [], OnOk, OnErr};
+ghost use Rattle.std.specs.Prelude.{◌≡◌, ◌<◌, ◌^◌, ◌++◌, ◌∷◌, [], OnOk, OnErr};
 ghost use Rattle.mon_cnf.specs.Truth.{Within, WithinAll};
 
 use crate::clause::Clause;
@@ -36,6 +36,15 @@ impl Formula {
             vars,
             clauses: Vec::new(alloc),
         }
+    }
+
+    /// Does nothing: its clauses are what the type keeps.
+    pub fn keeps(&self)
+        ensures within { WithinAll self.now.vars self.now.clauses }
+        ensures few { self.now.vars < 2 ^ 32 }
+    {
+        let _ = &self.clauses;
+        let _vars = self.vars;
     }
 
     /// Appends a clause whose variables are below the formula's number of variables, or changes nothing for want of

@@ -3,6 +3,10 @@ use Rattle.std.specs.Prelude.{ℕ, zero, suc, ◌+◌, ◌*◌, ◌^◌, Bool, f
 use Rattle.mon_header.specs.declared.header.Header.{Header}
 use Rattle.mon_header.specs.Wild.{flag, bit}
 
+-- how many bits a header has
+abbrev pub header_size : ℕ
+header_size = 264
+
 -- the fields in their order, each with its count of bits
 unfoldable pub laid : Header → List (ℕ × ℕ)
 laid h =

@@ -36,6 +36,13 @@ impl Actions {
         }
     }
 
+    /// Does nothing: its clause is what the type keeps.
+    pub fn keeps(&self)
+        ensures { AllFit self.now }
+    {
+        let _ = &self.items;
+    }
+
     /// Appends one action, or changes nothing for want of memory.
     pub fn push(&mut self, action: Action) -> Result<(), OutOfMemory>
         requires { FitsAction action }

@@ -8,7 +8,7 @@ ghost use Rattle.mon_header.specs.Matching.{Matching, InRange, IsNormal, normal,
 ghost use Rattle.mon_header.specs.Order.{match_before};
 ghost use Rattle.mon_header.specs.Laws.{ShareHeader, TakesAllOf};
 ghost use Rattle.mon_header.specs.Classes.{is_in_class, in_class};
-ghost use Rattle.mon_header.specs.Places.{header_bits, header_of};
+ghost use Rattle.mon_header.specs.Places.{header_size, header_bits, header_of};
 
 /// Two matches overlap exactly where some header is taken by both.
 pub fn overlapping_is_a_shared_header()
@@ -36,9 +36,9 @@ pub fn order_is_strict_and_total()
 /// A header within range is read from its 264 bits, 264 bits are those of the header that is read from them, and what
 /// is read is within range.
 pub fn bits_are_the_header()
-    ensures count { (h : Header) → length (header_bits h) ≡ 264 }
+    ensures count { (h : Header) → length (header_bits h) ≡ header_size }
     ensures read { (h : Header) → InRange h → header_of (header_bits h) ≡ h }
-    ensures written { (bits : List Bool) → length bits ≡ 264 → header_bits (header_of bits) ≡ bits }
+    ensures written { (bits : List Bool) → length bits ≡ header_size → header_bits (header_of bits) ≡ bits }
     ensures range { (bits : List Bool) → InRange (header_of bits) }
 {}
 

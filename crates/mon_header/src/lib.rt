@@ -31,5 +31,5 @@ pub use laws::{
 pub use matching::{Match, Matches, covers, effective, matches, overlaps};
 pub use mon_list::OutOfMemory;
 pub use order::{match_before, same_header, same_match};
-pub use places::{bit, from_bits};
+pub use places::{HEADER_BITS, bit, from_bits};
 pub use wild::Wildcards;

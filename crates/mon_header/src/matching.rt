@@ -99,6 +99,13 @@ impl Match {
         Match { wild, fields }
     }
 
+    /// Does nothing: its clause is what the type keeps.
+    pub fn keeps(&self)
+        ensures { IsNormal self.now }
+    {
+        let _ = &self.wild;
+    }
+
     /// The wildcards as the number that stands on the wire.
     pub fn wildcards(&self) -> u32
         ensures value { result ≡ packed self.now.wild }

@@ -3,9 +3,12 @@
 ghost use Rattle.std.specs.Prelude.{◌≡◌, ◌≤◌, ◌<◌, ◌+◌, ◌^◌, length};
 ghost use Rattle.mon_header.specs.Matching.{InRange};
 ghost use Rattle.mon_header.specs.Wild.{bit};
-ghost use Rattle.mon_header.specs.Places.{laid, bit_at, number, number_at, header_of};
+ghost use Rattle.mon_header.specs.Places.{header_size, laid, bit_at, number, number_at, header_of};
 
 use crate::header::Header;
+
+/// How many bits a header has.
+pub const HEADER_BITS: u16 = 264;
 
 /// The fields in the order of their bits, each with its count of bits.
 #[tactic(auto, unfolding(crate::specs::Places::laid))]
@@ -34,9 +37,9 @@ fn has_bit(n: u64, place: u16) -> bool
     place < 64 && (n >> place) & 1 == 1
 }
 
-/// The bit of a header at a place below 264: the fields stand in their order, the most significant bit of each first.
+/// The bit of a header at a place below `HEADER_BITS`: the fields stand in their order, the most significant bit of each first.
 pub fn bit(h: &Header, place: u16) -> bool
-    requires { place < 264 }
+    requires { place < header_size }
     ensures { result ≡ bit_at h.now place }
 {
     let mut left = place;
@@ -62,29 +65,29 @@ fn number(bits: &[bool]) -> u64
     n
 }
 
-fn u8_at(bits: &[bool; 264], start: usize) -> u8
-    requires { start + 8 ≤ 264 }
+fn u8_at(bits: &[bool; HEADER_BITS as usize], start: usize) -> u8
+    requires { start + 8 ≤ header_size }
     ensures { result ≡ number_at start 8 bits.now }
 {
     number(&bits[start..start + 8]) as u8
 }
 
-fn u16_at(bits: &[bool; 264], start: usize) -> u16
-    requires { start + 16 ≤ 264 }
+fn u16_at(bits: &[bool; HEADER_BITS as usize], start: usize) -> u16
+    requires { start + 16 ≤ header_size }
     ensures { result ≡ number_at start 16 bits.now }
 {
     number(&bits[start..start + 16]) as u16
 }
 
-fn u32_at(bits: &[bool; 264], start: usize) -> u32
-    requires { start + 32 ≤ 264 }
+fn u32_at(bits: &[bool; HEADER_BITS as usize], start: usize) -> u32
+    requires { start + 32 ≤ header_size }
     ensures { result ≡ number_at start 32 bits.now }
 {
     number(&bits[start..start + 32]) as u32
 }
 
-fn u48_at(bits: &[bool; 264], start: usize) -> u64
-    requires { start + 48 ≤ 264 }
+fn u48_at(bits: &[bool; HEADER_BITS as usize], start: usize) -> u64
+    requires { start + 48 ≤ header_size }
     ensures value { result ≡ number_at start 48 bits.now }
     ensures small { result < 2 ^ 48 }
 {
@@ -93,7 +96,7 @@ fn u48_at(bits: &[bool; 264], start: usize) -> u64
 
 /// The header whose bits these are. Its numbers are within range.
 #[tactic(auto, unfolding(crate::specs::Places::header_of))]
-pub fn from_bits(bits: &[bool; 264]) -> Header
+pub fn from_bits(bits: &[bool; HEADER_BITS as usize]) -> Header
     ensures value { result ≡ header_of bits.now }
     ensures range { InRange result }
 {

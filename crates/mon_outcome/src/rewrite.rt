@@ -1,6 +1,7 @@
 //! Rewrites: headers of which some fields are fixed and the others copied.
 
 ghost use Rattle.std.specs.Prelude.{◌≡◌, ◌<◌};
+ghost use Rattle.mon_header.specs.Places.{header_size};
 ghost use Rattle.mon_header.specs.Wild.{bit};
 ghost use Rattle.mon_outcome.specs.Filling.{laid, field_bit, bit_of, filled_field, filled};
 
@@ -96,9 +97,9 @@ impl Rewrite {
         ]
     }
 
-    /// The bit at a place below 264, in the order of a header's bits.
+    /// The bit at a place below `HEADER_BITS`, in the order of a header's bits.
     pub fn bit(&self, place: u16) -> Bit
-        requires { place < 264 }
+        requires { place < header_size }
         ensures { result ≡ bit_of self.now place }
     {
         let mut left = place;

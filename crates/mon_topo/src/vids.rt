@@ -34,6 +34,13 @@ impl Vids {
         }
     }
 
+    /// Does nothing: its clause is what the type keeps.
+    pub fn keeps(&self)
+        ensures { AreVids self.now }
+    {
+        let _ = &self.items;
+    }
+
     /// The least id that may come next, 4095 where none may.
     fn next(&self) -> u32
         ensures { result ≡ next 1 self.now }
