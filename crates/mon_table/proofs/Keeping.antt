@@ -5,10 +5,11 @@ use Rattle.std.proofs.Math.ListN.{length-set}
 use Rattle.std.proofs.lemmas.List.{append-nil, drop_all}
 use Rattle.std.proofs.lemmas.List.Edits.{length-insert}
 use Rattle.std.proofs.lemmas.Bool.{cases_Bool}
+use Rattle.mon_header.specs.Actions.{AllFit}
 use Rattle.mon_header.specs.Matching.{Matching, IsNormal, overlaps}
 use Rattle.mon_table.specs.declared.rule.Rule.{Rule}
 use Rattle.mon_table.specs.Rules.{Identity, identity_of, same_identity, comes_before}
-use Rattle.mon_table.specs.Tables.{InOrder, AllNormal, IsTable, without, placed, with_rule, slice}
+use Rattle.mon_table.specs.Tables.{InOrder, AllNormal, IsTable, AllActionsFit, without, placed, with_rule, slice}
 use Rattle.mon_table.proofs.Identities.{other-behind}
 use Rattle.mon_table.proofs.Placing.{behind-more}
 
@@ -64,6 +65,17 @@ table-with r t m table =
       normal = all-placed (λ s. IsNormal s.matching) r (without (identity_of r) t) m rest.normal;
     }
 
+-- so do the numbers of actions
+pub fit-filter : (p : Rule → Bool) (t : List Rule) → AllActionsFit t → AllActionsFit (filter p t)
+fit-filter p t fit = all-filter (λ r. AllFit r.actions) p t fit
+
+pub fit-without : (i : Identity) (t new : List Rule) → new ≡ without i t → AllActionsFit t → AllActionsFit new
+fit-without i t new e fit = subst AllActionsFit (sym e) (fit-filter (λ r. not (same_identity (identity_of r) i)) t fit)
+
+pub fit-with : (r : Rule) (t new : List Rule) → new ≡ with_rule r t → AllFit r.actions → AllActionsFit t → AllActionsFit new
+fit-with r t new e own fit =
+    subst AllActionsFit (sym e) (all-placed (λ s. AllFit s.actions) r (without (identity_of r) t) own (fit-filter (λ s. not (same_identity (identity_of s) (identity_of r))) t fit))
+
 pub filter-short : (p : Rule → Bool) (t : List Rule) → length (filter p t) ≤ length t
 filter-short p [] = omega arith
 filter-short p (x ∷ t) = let n = filter-short p t in ⊎_elim (λ e. rw e (omega arith)) (λ e. rw e (omega arith)) (cases_Bool (p x))
@@ -85,8 +97,8 @@ insert-short t s new n r e f le lt =
     omega arith
 
 -- the rules of a slice once the loop has come to the end
-pub slice-end : (m : Matching) (t v new : List Rule) (n : ℕ) → t ≡ v → IsTable t × (length t < 2 ^ 32) → length t ≤ n → new ++ slice m (drop n v) ≡ slice m v
-    → IsTable new × (length new < 2 ^ 32)
+pub slice-end : (m : Matching) (t v new : List Rule) (n : ℕ) → t ≡ v → IsTable t × (length t < 2 ^ 32) × AllActionsFit t → length t ≤ n → new ++ slice m (drop n v) ≡ slice m v
+    → IsTable new × (length new < 2 ^ 32) × AllActionsFit new
 slice-end m t v new n e table le h =
     let none : drop n t ≡ [] = drop_all n t le in
     let part : new ++ slice m (drop n t) ≡ slice m t = subst (λ (u : List Rule). new ++ slice m (drop n u) ≡ slice m u) (sym e) h in
@@ -94,4 +106,5 @@ slice-end m t v new n e table le h =
     let is : new ≡ slice m t = sym (append-nil new) ∙ whole in
     let short = filter-short (λ r. overlaps m r.matching) t in
     let same : length new ≡ length (slice m t) = ap length is in
-    (subst IsTable (sym is) (table-filter (λ r. overlaps m r.matching) t table.0), omega arith)
+    let few : length t < 2 ^ 32 = table.1 in
+    (subst IsTable (sym is) (table-filter (λ r. overlaps m r.matching) t table.0), omega arith, subst AllActionsFit (sym is) (fit-filter (λ r. overlaps m r.matching) t table.2))

@@ -190,6 +190,10 @@ searched k m p t s u n b c e f g h l d =
       stands = ap (λ (x : ℕ). stands_at (identity m p) x t) (sym at) ∙ (ap (stands_at (identity m p) n) (sym g) ∙ (ap (λ (x : Identity). stands_at x n u) (sym same) ∙ (sym l ∙ d)));
     }
 
+-- of a place and a look at it
+pub found-at : (i : Identity) (t : List Rule) (n : ℕ) (b c : Bool) → n ≡ place_of i t → b ≡ stands_at i n t → b ≡ c → Searched i t n c
+found-at i t n b c e f g = record { place = e; stands = ap (λ (k : ℕ). stands_at i k t) (sym e) ∙ (sym f ∙ g) }
+
 pub put-set : (r x : Rule) (t : List Rule) (n : ℕ) → IsTable t → x ≡ r → Searched (identity_of r) t n true → set t n x ≡ with_rule r t
 put-set r x t n table e f = ap (set t n) e ∙ (ap (λ (k : ℕ). set t k r) f.place ∙ found-set r t table.order f.stands)
 

@@ -1,6 +1,7 @@
 -- A table is its list of rules, in table order.
 use Rattle.std.specs.Prelude.{◌≡◌, ℕ, suc, Bool, true, not, ◌==◌, ◌&&◌, if◌then◌else◌, List, [], ◌∷◌, Option}
 use Rattle.std.specs.List.{filter, find, list_any, AllByRecursion}
+use Rattle.mon_header.specs.Actions.{AllFit}
 use Rattle.mon_header.specs.Matching.{Matching, IsNormal, covers, overlaps}
 use Rattle.mon_table.specs.declared.rule.Rule.{Rule}
 use Rattle.mon_table.specs.Rules.{Identity, identity_of, rank, same_identity, comes_before}
@@ -18,6 +19,10 @@ AllNormal t = AllByRecursion (λ r. IsNormal r.matching) t
 pub record IsTable (t : List Rule) : Type 0 where
   pub order : InOrder t
   pub normal : AllNormal t
+
+-- the numbers of the actions of each of these rules fit
+abbrev pub AllActionsFit : List Rule → Type 0
+AllActionsFit t = AllByRecursion (λ r. AllFit r.actions) t
 
 -- the rule of this identity
 abbrev pub rule_of : Identity → List Rule → Option Rule

@@ -1,6 +1,8 @@
 //! Rules.
 
 ghost use Rattle.std.specs.Prelude.{◌≡◌, IfOk};
+ghost use Rattle.mon_header.specs.Actions.{AllFit};
+ghost use Rattle.mon_header.specs.Matching.{IsNormal};
 ghost use Rattle.mon_table.specs.Tables.{ties};
 ghost use Rattle.mon_table.specs.Rules.{identity_of, rank, same_identity, comes_before};
 
@@ -17,6 +19,15 @@ pub struct Rule {
 }
 
 impl Rule {
+    /// Does nothing: its clauses are what the parts of a rule keep.
+    pub fn keeps(&self)
+        ensures normal { IsNormal self.now.matching }
+        ensures fit { AllFit self.now.actions }
+    {
+        self.matching.keeps();
+        self.actions.keeps();
+    }
+
     /// The effective priority: 65536 where no wildcard is set, else the priority field.
     pub fn rank(&self) -> u32
         ensures { result ≡ rank self.now }

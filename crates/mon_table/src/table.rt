@@ -4,7 +4,7 @@ ghost use Rattle.std.specs.Prelude.{◌≡◌, ◌<◌, ◌≤◌, ◌^◌, [], 
 ghost use Rattle.std.specs.List.{position};
 ghost use Rattle.mon_header.specs.Matching.{IsNormal};
 ghost use Rattle.mon_table.specs.Rules.{identity, identity_of, same_identity};
-ghost use Rattle.mon_table.specs.Tables.{IsTable, InOrder, rule_of, without, with_rule, places, is_named, slice, tied};
+ghost use Rattle.mon_table.specs.Tables.{IsTable, AllActionsFit, InOrder, rule_of, without, with_rule, places, is_named, slice, tied};
 ghost use Rattle.mon_table.specs.Winners.{wins};
 ghost use Rattle.mon_table.specs.Places.{place_of, stands_at, top_rank, is_at_rank};
 
@@ -26,11 +26,11 @@ impl Model for Table {
 
     ghost Value = { List Rule };
 
-    ghost use Rattle.mon_table.specs.Tables.{IsTable};
+    ghost use Rattle.mon_table.specs.Tables.{IsTable, AllActionsFit};
 
     ghost view = { λ t. t.rules.items };
 
-    ghost invariant = { λ t. IsTable t.rules.items × (length t.rules.items < 2 ^ 32) };
+    ghost invariant = { λ t. IsTable t.rules.items × (length t.rules.items < 2 ^ 32) × AllActionsFit t.rules.items };
 }
 
 impl Table {
@@ -41,6 +41,15 @@ impl Table {
         Table {
             rules: Vec::new(alloc),
         }
+    }
+
+    /// Does nothing: its clauses are what the type keeps.
+    pub fn keeps(&self)
+        ensures table { IsTable self.now }
+        ensures fit { AllActionsFit self.now }
+        ensures few { length self.now < 2 ^ 32 }
+    {
+        let _ = &self.rules;
     }
 
     /// The number of rules.
@@ -59,14 +68,32 @@ impl Table {
         &self.rules[place as usize]
     }
 
+    /// The number of rules that stand before one of this match and this effective priority: the place at which it stands
+    /// or would stand. It is searched by halves.
+    pub fn place_of(&self, m: &Match, priority: u16) -> u32
+        ensures value { result ≡ place_of (identity m.now priority) self.now }
+        ensures within { result ≤ length self.now }
+    {
+        search(&self.rules, m, effective(m, priority)) as u32
+    }
+
+    /// Whether a rule of this match and this effective priority stands at the place.
+    pub fn stands_at(&self, place: u32, m: &Match, priority: u16) -> bool
+        ensures value { result ≡ stands_at (identity m.now priority) place self.now }
+        ensures within { IsTrue result → place < length self.now }
+    {
+        stands_at(&self.rules, place as usize, m, effective(m, priority))
+    }
+
     /// The place of the rule with this match and this effective priority, or None where there is none.
     pub fn place(&self, m: &Match, priority: u16) -> Option<u32>
         ensures { result ≡ position (λ r. same_identity (identity_of r) (identity m.now priority)) self.now }
     {
-        let rank = effective(m, priority);
-        let place = search(&self.rules, m, rank);
-        if stands_at(&self.rules, place, m, rank) {
-            return Some(place as u32);
+        self.keeps();
+        m.keeps();
+        let place = self.place_of(m, priority);
+        if self.stands_at(place, m, priority) {
+            return Some(place);
         }
         None
     }
@@ -77,6 +104,7 @@ impl Table {
         ensures old { IfOk result (λ old. old ≡ rule_of (identity_of rule) self.old) }
         ensures same { OnErr result (self.new ≡ self.old) }
     {
+        rule.keeps();
         let rank = rule.rank();
         let place = search(&self.rules, &rule.matching, rank);
         if stands_at(&self.rules, place, &rule.matching, rank) {
@@ -165,8 +193,7 @@ fn search(rules: &[Rule], m: &Match, rank: u32) -> usize
     ensures within { result ≤ length rules.now }
     ensures normal { IsNormal m.now }
 {
-    // Only a look at the match shows that it is in its normal form, by which other identities stand apart.
-    let _ = m.wild();
+    m.keeps();
     rules.partition_point(|rule| rule.comes_before(m, rank))
 }
 

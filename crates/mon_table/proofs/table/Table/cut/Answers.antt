@@ -2,7 +2,7 @@ use Rattle.std.proofs.Common.{◌≡◌, subst, sym, ◌∙◌, true, false}
 use Rattle.mon_table.specs.Rules.{identity}
 use Rattle.mon_table.specs.Tables.{IsTable, without}
 use Rattle.mon_table.proofs.Placing.{Searched, searched, cut-remove, cut-none, old-found, old-none}
-use Rattle.mon_table.proofs.Keeping.{table-without, without-short}
+use Rattle.mon_table.proofs.Keeping.{table-without, fit-without, without-short}
 use Rattle.mon_table.proofs.table.Table.cut.Goals as goal
 
 found : (c : goal.After-remove) → Searched (identity c.args.m.now c.args.priority) c.self.inside.rules.items c.search-place.result true
@@ -18,6 +18,7 @@ invariant_of-self c =
     let i = identity c.args.m.now c.args.priority in (
       subst IsTable (sym (left c)) (table-without i t c.self.invariant.0),
       without-short i t _ (left c) c.self.invariant.1,
+      fit-without i t _ (left c) c.self.invariant.2,
     )
 
 pub returns-then-stands_at-clause-cut : goal.returns-then-stands_at-clause-cut

@@ -2,7 +2,7 @@ use Rattle.std.proofs.Common.{◌≡◌, subst, sym, ◌∙◌, true, false, set
 use Rattle.mon_table.specs.Rules.{identity_of}
 use Rattle.mon_table.specs.Tables.{IsTable, with_rule}
 use Rattle.mon_table.proofs.Placing.{Searched, searched, put-set, put-insert, old-found, old-none}
-use Rattle.mon_table.proofs.Keeping.{table-with, set-short, insert-short}
+use Rattle.mon_table.proofs.Keeping.{table-with, fit-with, set-short, insert-short}
 use Rattle.mon_table.proofs.table.Table.put.Goals as goal
 
 found : (c : goal.After-self-1) → Searched (identity_of c.args.rule) c.self.inside.rules.items c.search-place.result true
@@ -17,6 +17,7 @@ invariant_of-self c =
     let t = c.self.inside.rules.items in (
       subst IsTable (sym (replaced c)) (table-with c.args.rule t c.search-place.ensures.normal c.self.invariant.0),
       set-short t c.search-place.result c.replace-old.new.dest c.self.invariant.1,
+      fit-with c.args.rule t _ (replaced c) c.keeps.ensures.fit c.self.invariant.2,
     )
 
 pub returns-then-stands_at-clause-put : goal.returns-then-stands_at-clause-put
@@ -39,6 +40,7 @@ invariant_of-self-2 c =
       subst IsTable (sym (added c)) (table-with c.args.rule t c.search-place.ensures.normal c.self.invariant.0),
       insert-short t c.deref.result.now c.insert.new.self.items c.search-place.result c.args.rule c.in_ok-insert.ensures.items c.deref.ensures.value c.search-place.ensures.within
           (omega (arith, c.deref.ensures.len, c.len.ensures)),
+      fit-with c.args.rule t _ (added c) c.keeps.ensures.fit c.self.invariant.2,
     )
 
 pub returns-clause-put : goal.returns-clause-put
