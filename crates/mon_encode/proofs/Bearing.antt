@@ -7,14 +7,12 @@ use Rattle.mon_cnf.specs.Truth.{values_of, formula_true}
 use Rattle.mon_header.specs.declared.header.Header.{Header}
 use Rattle.mon_header.specs.Same.{same_header}
 use Rattle.mon_table.specs.declared.rule.Rule.{Rule}
-use Rattle.mon_table.specs.Tables.{IsTable}
-use Rattle.mon_table.proofs.Members.{after-table}
 use Rattle.mon_outcome.specs.declared.emission.Emission.{Emission}
 use Rattle.mon_outcome.specs.declared.rewrite.Rewrite.{Rewrite}
 use Rattle.mon_outcome.specs.Filling.{filled}
 use Rattle.mon_shows.specs.Views.{IsView}
-use Rattle.mon_shows.specs.Separation.{taken_back, without_update, separates}
-use Rattle.mon_job.specs.Jobs.{Task}
+use Rattle.mon_shows.specs.Separation.{separates}
+use Rattle.mon_job.specs.Jobs.{Task, Kept}
 use Rattle.mon_literals.specs.Bearing.{Bears, borne}
 use Rattle.mon_literals.specs.Differing.{FitsFields, differ}
 use Rattle.mon_literals.proofs.Apart.{differing_true, never_same}
@@ -22,9 +20,8 @@ use Rattle.mon_literals.proofs.Patterns.{pattern_true}
 use Rattle.mon_literals.proofs.Probes.{class_true}
 use Rattle.mon_literals.proofs.Values.{borne_is_borne}
 use Rattle.mon_encode.specs.declared.case.Case.{Case}
-use Rattle.mon_encode.specs.Cases.{IsCaseOf, BelongsTo, shape_of, given}
+use Rattle.mon_encode.specs.Cases.{IsCaseOf, BelongsTo, HasWinner, shape_of, given}
 use Rattle.mon_encode.specs.Formulas.{clauses_of, decoded, encoded}
-use Rattle.mon_encode.specs.Keeping.{Kept, HasWinner}
 use Rattle.mon_encode.proofs.Truth.{Denies}
 use Rattle.mon_encode.proofs.Exact.{Literals}
 use Rattle.mon_encode.proofs.Casing.{Founded, case-fact}
@@ -72,9 +69,6 @@ winner-within j c k i = ⊎_elim
     (λ (n : c.winner ≡ None). subst (HasWinner j.table) (sym n) tt)
     (λ (f : Founded j.table c). subst (HasWinner j.table) (sym f.winner) (got-within j.table f.place f.rule f.rule_there))
     (case-fact j c k.table.order k.job.there i).founded
-
-pub undone-table : (j : Task) → Kept j → IsTable (without_update j.table j.target)
-undone-table j k = after-table j.table (taken_back j.target) k.table k.back_normal
 
 -- the header of a model is of the case's class and port, and bears the view's tag
 pub shows-meets : (j : Task) (c : Case) (h : Header) (e : Emission) → IsView j.view → separates j.view j.table j.target h e ≡ true → BelongsTo j c h e → Meets c.class c.in_port h

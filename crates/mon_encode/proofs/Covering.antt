@@ -24,10 +24,9 @@ use Rattle.mon_shows.specs.declared.target.Target.{Target}
 use Rattle.mon_shows.specs.declared.target.Target.TheVariants.{Put, Cut, Watch}
 use Rattle.mon_shows.specs.Views.{Viewing, IsView, has_link, craftable, caught}
 use Rattle.mon_shows.specs.Separation.{without_update, is_miss, is_sure, is_possible, separates}
-use Rattle.mon_job.specs.Jobs.{Task, updated, IsIn}
+use Rattle.mon_job.specs.Jobs.{Task, updated, IsIn, Kept}
 use Rattle.mon_encode.specs.declared.case.Case.{Case}
 use Rattle.mon_encode.specs.Cases.{by_winner, IsCaseOf, shape_at, given, BelongsTo}
-use Rattle.mon_encode.specs.Keeping.{Kept}
 use Rattle.mon_encode.proofs.Emitting.{Meets, must-back}
 use Rattle.mon_encode.proofs.Updating.{stands-there, own-winner}
 use Rattle.mon_encode.proofs.Casing.{case, rule-in, miss-in, cut-in, case-in}

@@ -15,7 +15,7 @@ use Rattle.mon_table.specs.declared.rule.Rule.{Rule}
 use Rattle.mon_table.specs.declared.edit.Edit.{Edit}
 use Rattle.mon_table.specs.declared.edit.Edit.TheVariants as edit
 use Rattle.mon_table.specs.Rules.{identity_of, rank, comes_before}
-use Rattle.mon_table.specs.Tables.{InOrder, IsTable}
+use Rattle.mon_table.specs.Tables.{InOrder, IsTable, AllActionsFit}
 use Rattle.mon_table.specs.Edits.{edited, after}
 use Rattle.mon_table.specs.Laws.{IsPut}
 use Rattle.mon_table.specs.Winners.{winners}
@@ -30,13 +30,12 @@ use Rattle.mon_outcome.specs.Shaping.{shapes_of, emitted_by}
 use Rattle.mon_outcome.proofs.Equality.{emission-same}
 use Rattle.mon_shows.specs.Views.{craftable, caught}
 use Rattle.mon_shows.specs.Separation.{taken_back, without_update, is_sure, is_possible, separates}
-use Rattle.mon_job.specs.Jobs.{Task}
+use Rattle.mon_job.specs.Jobs.{Task, Kept}
 use Rattle.mon_literals.specs.Conditions.{class_clauses}
 use Rattle.mon_encode.specs.declared.case.Case.{Case}
 use Rattle.mon_encode.specs.Cases.{IsCaseOf, winner_at, shape_at, shape_of, given, BelongsTo}
 use Rattle.mon_encode.specs.Clauses.{winning}
 use Rattle.mon_encode.specs.Formulas.{is_known, comes_back, clauses_in, clauses_of, tagged}
-use Rattle.mon_encode.specs.Keeping.{AllActionsFit, Kept}
 use Rattle.mon_encode.proofs.Fitting.{AllFitFields, shapes-fit}
 use Rattle.mon_encode.proofs.Chaining.{Falls, Helped}
 use Rattle.mon_encode.proofs.Emitting.{Meets, FitsShape, must-there, must-back, given-caught, given-whole}

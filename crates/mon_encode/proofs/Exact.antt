@@ -13,7 +13,7 @@ use Rattle.mon_header.specs.Classes.{is_in_class}
 use Rattle.mon_header.specs.Matching.{Matching, IsNormal, matches}
 use Rattle.mon_table.specs.declared.rule.Rule.{Rule}
 use Rattle.mon_table.specs.Rules.{rank}
-use Rattle.mon_table.specs.Tables.{InOrder, AllNormal, IsTable}
+use Rattle.mon_table.specs.Tables.{InOrder, AllNormal, IsTable, AllActionsFit}
 use Rattle.mon_table.specs.Winners.{wins, winners}
 use Rattle.mon_outcome.specs.declared.emission.Emission.TheVariants.{Miss}
 use Rattle.mon_outcome.specs.declared.shape.Shape.{Shape}
@@ -29,7 +29,6 @@ use Rattle.mon_literals.specs.Conditions.{class_clauses}
 use Rattle.mon_literals.specs.Clauses.{alone}
 use Rattle.mon_encode.specs.Cases.{given}
 use Rattle.mon_encode.specs.Clauses.{unmatched, beaten, winning, chain, above, matched, or_hidden, hidden, not_missed}
-use Rattle.mon_encode.specs.Keeping.{AllActionsFit}
 use Rattle.mon_encode.proofs.Truth.{fits, Read, unmatched_true, none_true, all_lose, beaten_true}
 use Rattle.mon_encode.proofs.Chaining.{Falls, Helped, is_above, above_there, matched_there, chain_back, above_back, matched_back}
 use Rattle.mon_encode.proofs.Winners.{winner-there, winner-back, miss-there, miss-back}

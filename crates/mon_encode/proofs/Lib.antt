@@ -9,7 +9,6 @@ pub mod Casing
 pub mod Covering
 pub mod Deciding
 pub mod Helping
-pub mod Standing
 pub mod Bearing
 pub mod Pushing
 pub mod Above

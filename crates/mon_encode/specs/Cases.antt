@@ -1,6 +1,6 @@
 -- The cases of a job: in which class and at which port a probe of it can come in, which rule wins there, and which of
 -- that rule's emissions shows the update.
-use Rattle.std.specs.Prelude.{◌≡◌, ℕ, suc, true, List, [], ◌∷◌, ◌++◌, Option, Some, None}
+use Rattle.std.specs.Prelude.{◌≡◌, ℕ, suc, ◌<◌, true, List, [], ◌∷◌, ◌++◌, length, Option, Some, None}
 use Rattle.std.specs.List.{slice_get, Contains}
 use Rattle.std.specs.Option.{option_to_list}
 use Rattle.mon_header.specs.declared.class.Class.{Class}
@@ -70,6 +70,11 @@ cases_of j = by_class j.table j.target j.view.links all_classes
 -- the case is one of the job's
 abbrev pub IsCaseOf : Task → Case → Type 0
 IsCaseOf j c = Contains (cases_of j) c
+
+-- a winner's place is in the table
+abbrev pub HasWinner : List Rule → Option ℕ → Type 0
+HasWinner t None = Unit {0}
+HasWinner t (Some place) = place < length t
 
 -- the rule at a winner's place; a miss has none
 abbrev pub winner_at : List Rule → Option ℕ → Option Rule

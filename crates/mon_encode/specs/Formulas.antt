@@ -4,7 +4,7 @@ use Rattle.mon_cnf.specs.declared.clause.Lit.{Lit}
 use Rattle.mon_cnf.specs.Formulas.{Cnf}
 use Rattle.mon_header.specs.declared.header.Header.{Header}
 use Rattle.mon_header.specs.Matching.{matches}
-use Rattle.mon_header.specs.Places.{header_bits}
+use Rattle.mon_header.specs.Places.{header_size, header_bits}
 use Rattle.mon_table.specs.declared.rule.Rule.{Rule}
 use Rattle.mon_outcome.specs.declared.emission.Emission.{Emission}
 use Rattle.mon_outcome.specs.declared.shape.Shape.{Shape}
@@ -49,9 +49,9 @@ abbrev pub clauses_in : Viewing → List Rule → List Rule → Case → List (L
 clauses_in v t undone c =
     class_clauses v c.class c.in_port
     ++ (winning c.winner t
-    ++ (chain 264 [] undone
-    ++ (hidden 264 c.class c.in_port (shape_of t c) undone undone
-    ++ not_missed 264 (shape_of t c) undone)))
+    ++ (chain header_size [] undone
+    ++ (hidden header_size c.class c.in_port (shape_of t c) undone undone
+    ++ not_missed header_size (shape_of t c) undone)))
 
 -- the clauses of a case; only the empty one where its emission never shows anything
 unfoldable pub clauses_of : Task → Case → List (List Lit)
@@ -62,7 +62,7 @@ clauses_of j c =
 
 -- the bits of a header, and two helpers for each rule of the table without the update
 abbrev pub vars_of : Task → ℕ
-vars_of j = 264 + 2 * length (without_update j.table j.target)
+vars_of j = header_size + 2 * length (without_update j.table j.target)
 
 -- the formula of a case
 abbrev pub formula_of : Task → Case → Cnf

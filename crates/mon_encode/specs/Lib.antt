@@ -1,4 +1,3 @@
 pub mod Cases
 pub mod Clauses
 pub mod Formulas
-pub mod Keeping

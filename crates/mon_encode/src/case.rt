@@ -1,5 +1,7 @@
 //! Cases.
 
+ghost use Rattle.std.specs.Prelude.{◌<◌, ◌^◌};
+
 use mon_list::Items;
 use mon_outcome::Class;
 
@@ -12,6 +14,15 @@ pub struct Case {
     pub in_port: u16,
     pub winner: Option<u32>,
     pub emission: u32,
+}
+
+impl Case {
+    /// Does nothing: its clause is that the port is one of 16 bits.
+    pub fn keeps(&self)
+        ensures { self.now.in_port < 2 ^ 16 }
+    {
+        let _in_port = self.in_port;
+    }
 }
 
 /// Cases, in order.

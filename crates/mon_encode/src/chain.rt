@@ -3,14 +3,19 @@
 ghost use Rattle.std.specs.Prelude.{◌≡◌, ◌<◌, ◌≤◌, ◌+◌, ◌*◌, ◌∷◌, [], map, length, Option, Some, None, OnOk};
 ghost use Rattle.mon_cnf.specs.declared.clause.Lit.{Lit};
 ghost use Rattle.mon_cnf.specs.Truth.{Within};
+ghost use Rattle.mon_header.specs.Places.{header_size};
 ghost use Rattle.mon_literals.specs.Clauses.{appended};
 ghost use Rattle.mon_encode.specs.Clauses.{true_at, false_at, chain, listed};
 
 use crate::clauses::{false_at, true_at};
-use crate::undone::Undone;
 use mon_cnf::{Clause, Formula, Lit, OutOfMemory};
+use mon_header::HEADER_BITS;
 use mon_literals::pattern;
+use mon_shows::Undone;
 use std::alloc::Global;
+
+/// The variable of the first helper: it stands behind the bits of a header.
+pub(crate) const FIRST_HELPER: u32 = HEADER_BITS as u32;
 
 /// One clause for each literal: where the variable is true, the literal is.
 fn push_implied(
@@ -45,7 +50,7 @@ fn push_link(
     ensures pushed { OnOk result (f.new ≡ appended f.old ((false_at (var + 1) ∷ true_at var ∷ listed earlier) ∷ [])) }
     ensures vars { f.new.vars ≡ f.old.vars }
 {
-    let _ = f.vars();
+    f.keeps();
     let mut clause = Clause::new(alloc);
     clause.push(false_at(var + 1))?;
     clause.push(true_at(var))?;
@@ -57,14 +62,14 @@ fn push_link(
 
 /// Appends the clauses of the helpers of all rules. They stand behind the variables of a header.
 pub(crate) fn push_chain(alloc: Global, f: &mut Formula, u: &Undone) -> Result<(), OutOfMemory>
-    requires { f.old.vars ≡ 264 + 2 * length u.now }
-    ensures pushed { OnOk result (f.new ≡ appended f.old (chain 264 [] u.now)) }
+    requires { f.old.vars ≡ header_size + 2 * length u.now }
+    ensures pushed { OnOk result (f.new ≡ appended f.old (chain header_size [] u.now)) }
     ensures vars { f.new.vars ≡ f.old.vars }
 {
-    let _ = f.vars();
-    let mut var = 264;
+    f.keeps();
+    let mut var = FIRST_HELPER;
     let mut earlier = None;
-    for place in 0..u.len() as u32 {
+    for place in 0..u.len() {
         let pattern = pattern(alloc, &u.rule(place).matching)?;
         push_implied(alloc, f, var, pattern.items())?;
         push_link(alloc, f, var, earlier)?;

@@ -7,19 +7,16 @@ ghost use Rattle.mon_header.specs.Places.{header_bits};
 ghost use Rattle.mon_outcome.specs.declared.emission.Emission.{Emission};
 ghost use Rattle.mon_shows.specs.Separation.{separates};
 ghost use Rattle.mon_literals.specs.Bearing.{Bears};
-ghost use Rattle.mon_encode.specs.Cases.{IsCaseOf, BelongsTo, shape_of, given};
+ghost use Rattle.mon_encode.specs.Cases.{IsCaseOf, BelongsTo, HasWinner, shape_of, given};
 ghost use Rattle.mon_encode.specs.Formulas.{formula_of, decoded, encoded, helpers};
-ghost use Rattle.mon_encode.specs.Keeping.{HasWinner};
 
 use crate::case::Case;
-use crate::encoding::vars_of;
-use crate::keeping::look_at;
-use crate::undone::{Undone, without_update};
 use mon_cnf::{Bits, OutOfMemory};
-use mon_header::{Header, bit, matches};
+use mon_header::{HEADER_BITS, Header, bit, matches};
 use mon_job::Job;
 use mon_literals::borne;
 use mon_outcome::{Emission, emission_at};
+use mon_shows::{Undone, without_update};
 use mon_table::Table;
 use std::alloc::Global;
 
@@ -50,9 +47,8 @@ pub fn decode_model(j: &Job, c: &Case, values: &[bool]) -> (Header, Emission)
     ensures separates { separates j.now.view j.now.table j.now.target result.0 result.1 ≡ true }
     ensures belongs { BelongsTo j.now c.now result.0 result.1 }
 {
-    look_at(j);
-    // Only a look at the number shows that it fits.
-    let _in_port = c.in_port;
+    j.keeps();
+    c.keeps();
     let header = borne(values);
     let emission = emission_of(&j.table, c, &header);
     (header, emission)
@@ -63,7 +59,7 @@ fn bits_of(alloc: Global, h: &Header) -> Result<Bits, OutOfMemory>
     ensures { IfOk result (λ bits. bits ≡ header_bits h.now) }
 {
     let mut bits = Bits::new(alloc);
-    for place in 0..264 {
+    for place in 0..HEADER_BITS {
         bits.push(bit(h, place))?;
     }
     Ok(bits)
@@ -71,11 +67,10 @@ fn bits_of(alloc: Global, h: &Header) -> Result<Bits, OutOfMemory>
 
 /// Appends the helpers of the rules.
 fn push_helpers(values: &mut Bits, u: &Undone, h: &Header) -> Result<(), OutOfMemory>
-    requires { 264 + 2 * length u.now < 2 ^ 32 }
     ensures { OnOk result (values.new ≡ values.old ++ helpers h.now false u.now) }
 {
     let mut seen = false;
-    for place in 0..u.len() as u32 {
+    for place in 0..u.len() {
         let found = matches(&u.rule(place).matching, h);
         seen = seen || found;
         values.push(found)?;
@@ -89,8 +84,7 @@ fn push_helpers(values: &mut Bits, u: &Undone, h: &Header) -> Result<(), OutOfMe
 fn values(alloc: Global, j: &Job, h: &Header) -> Result<Bits, OutOfMemory>
     ensures { IfOk result (λ values. values ≡ encoded j.now h.now) }
 {
-    let u = without_update(j);
-    let _vars = vars_of(&u)?;
+    let u = without_update(&j.table, &j.target);
     let mut values = bits_of(alloc, h)?;
     push_helpers(&mut values, &u, h)?;
     Ok(values)
@@ -106,8 +100,7 @@ pub fn encode_header(alloc: Global, j: &Job, c: &Case, h: &Header) -> Result<Bit
     ensures model { IfOk result (λ values. formula_true (values_of values) (formula_of j.now c.now).clauses ≡ true) }
     ensures bears { IfOk result (λ values. Bears (values_of values) h.now) }
 {
-    look_at(j);
-    // Only a look at the number shows that it fits.
-    let _in_port = c.in_port;
+    j.keeps();
+    c.keeps();
     values(alloc, j, h)
 }

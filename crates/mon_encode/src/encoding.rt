@@ -3,33 +3,31 @@
 ghost use Rattle.std.specs.Prelude.{◌≡◌, ℕ, ◌+◌, ◌*◌, Bool, true, length, IfOk, OnOk};
 ghost use Rattle.mon_cnf.specs.Truth.{formula_true};
 ghost use Rattle.mon_header.specs.declared.header.Header.{Header};
-ghost use Rattle.mon_table.specs.Tables.{IsTable};
 ghost use Rattle.mon_outcome.specs.declared.emission.Emission.{Emission};
-ghost use Rattle.mon_shows.specs.Separation.{without_update, separates};
+ghost use Rattle.mon_shows.specs.Separation.{separates};
 ghost use Rattle.mon_literals.specs.Bearing.{Bears};
+ghost use Rattle.mon_header.specs.Places.{header_size};
 ghost use Rattle.mon_literals.specs.Clauses.{appended};
-ghost use Rattle.mon_encode.specs.Cases.{IsCaseOf, BelongsTo, shape_of};
+ghost use Rattle.mon_encode.specs.Cases.{IsCaseOf, BelongsTo, HasWinner, shape_of};
 ghost use Rattle.mon_encode.specs.Formulas.{clauses_in, clauses_of, formula_of, decoded};
-ghost use Rattle.mon_encode.specs.Keeping.{HasWinner};
 
 use crate::case::Case;
-use crate::chain::push_chain;
+use crate::chain::{FIRST_HELPER, push_chain};
 use crate::hidden::{push_hidden, push_not_missed};
-use crate::keeping::look_at;
 use crate::showing::{can_show, shape_of};
-use crate::undone::{Undone, without_update};
 use crate::winning::push_winning;
 use mon_cnf::{Clause, Formula, OutOfMemory};
 use mon_job::Job;
 use mon_literals::push_class;
 use mon_outcome::Shape;
+use mon_shows::{Undone, without_update};
 use std::alloc::Global;
 
 /// How many variables the formulas of a job have. More rules than leave them a `u32` find no memory long before.
 pub(crate) fn vars_of(u: &Undone) -> Result<u32, OutOfMemory>
-    ensures { IfOk result (λ vars. vars ≡ 264 + 2 * length u.now) }
+    ensures { IfOk result (λ vars. vars ≡ header_size + 2 * length u.now) }
 {
-    let vars = 264 + 2 * u.len();
+    let vars = u64::from(FIRST_HELPER) + 2 * u.len();
     if vars > u64::from(u32::MAX) {
         return Err(OutOfMemory);
     }
@@ -45,8 +43,7 @@ fn push_clauses(
     c: &Case,
     shape: Option<Shape>,
 ) -> Result<(), OutOfMemory>
-    requires vars { f.old.vars ≡ 264 + 2 * length u.now }
-    requires table { IsTable u.now }
+    requires vars { f.old.vars ≡ header_size + 2 * length u.now }
     requires within { HasWinner j.now.table c.now.winner }
     requires shape { shape ≡ shape_of j.now.table c.now }
     ensures { OnOk result (f.new ≡ appended f.old (clauses_in j.now.view j.now.table u.now c.now)) }
@@ -61,11 +58,10 @@ fn push_clauses(
 /// The formula of a case.
 #[tactic(auto, unfolding(crate::specs::Formulas::clauses_of))]
 fn formula(alloc: Global, j: &Job, c: &Case) -> Result<Formula, OutOfMemory>
-    requires table { IsTable (without_update j.now.table j.now.target) }
-    requires within { HasWinner j.now.table c.now.winner }
+    requires { HasWinner j.now.table c.now.winner }
     ensures { IfOk result (λ f. f ≡ formula_of j.now c.now) }
 {
-    let u = without_update(j);
+    let u = without_update(&j.table, &j.target);
     let mut f = Formula::new(alloc, vars_of(&u)?);
     let shape = shape_of(alloc, &j.table, c)?;
     if !can_show(j, c, shape) {
@@ -89,8 +85,7 @@ pub fn encode(alloc: Global, j: &Job, c: &Case) -> Result<Formula, OutOfMemory>
     ensures complete { (h : Header) (e : Emission) → separates j.now.view j.now.table j.now.target h e ≡ true
         → BelongsTo j.now c.now h e → (v : ℕ → Bool) × (formula_true v (formula_of j.now c.now).clauses ≡ true) × Bears v h }
 {
-    look_at(j);
-    // Only a look at the number shows that it fits.
-    let _in_port = c.in_port;
+    j.keeps();
+    c.keeps();
     formula(alloc, j, c)
 }

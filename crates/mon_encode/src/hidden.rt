@@ -2,15 +2,16 @@
 
 ghost use Rattle.std.specs.Prelude.{◌≡◌, ◌≤◌, ◌+◌, ◌*◌, ◌++◌, ◌∷◌, [], length, nat_lt, if◌then◌else◌, IfOk, OnOk};
 ghost use Rattle.mon_cnf.specs.Truth.{Within};
-ghost use Rattle.mon_table.specs.Tables.{IsTable};
+ghost use Rattle.mon_header.specs.Places.{header_size};
 ghost use Rattle.mon_literals.specs.Clauses.{appended};
 ghost use Rattle.mon_encode.specs.Clauses.{listed, same_door, apart, or_apart, or_all_apart, or_hidden, unmatched, above, hidden, matched, not_missed};
 
+use crate::chain::FIRST_HELPER;
 use crate::clauses::{joined, true_at, unmatched};
-use crate::undone::Undone;
 use mon_cnf::{Clause, Formula, Lit, OutOfMemory};
 use mon_literals::differ;
 use mon_outcome::{Class, Door, Shape, any_unknown, rewrites};
+use mon_shows::Undone;
 use mon_table::Rule;
 use std::alloc::Global;
 
@@ -46,7 +47,7 @@ fn push_all_apart(
     shape: Option<Shape>,
     shapes: &[Shape],
 ) -> Result<(), OutOfMemory>
-    requires vars { 264 ≤ f.old.vars }
+    requires vars { header_size ≤ f.old.vars }
     requires within { Within f.old.vars base.now }
     ensures pushed { OnOk result (f.new ≡ appended f.old (or_all_apart base.now shape shapes.now)) }
     ensures vars { f.new.vars ≡ f.old.vars }
@@ -69,7 +70,7 @@ fn push_or_hidden(
     shape: Option<Shape>,
     rule: &Rule,
 ) -> Result<(), OutOfMemory>
-    requires vars { 264 ≤ f.old.vars }
+    requires vars { header_size ≤ f.old.vars }
     requires within { Within f.old.vars base }
     ensures pushed { OnOk result (f.new ≡ appended f.old (or_hidden base class in_port shape rule.now)) }
     ensures vars { f.new.vars ≡ f.old.vars }
@@ -109,17 +110,17 @@ pub(crate) fn push_hidden(
     in_port: u16,
     shape: Option<Shape>,
 ) -> Result<(), OutOfMemory>
-    requires vars { f.old.vars ≡ 264 + 2 * length u.now }
-    requires table { IsTable u.now }
-    ensures pushed { OnOk result (f.new ≡ appended f.old (hidden 264 class in_port shape u.now u.now)) }
+    requires { f.old.vars ≡ header_size + 2 * length u.now }
+    ensures pushed { OnOk result (f.new ≡ appended f.old (hidden header_size class in_port shape u.now u.now)) }
     ensures vars { f.new.vars ≡ f.old.vars }
 {
-    let _ = f.vars();
+    f.keeps();
+    u.keeps();
     let mut before = 0;
     let mut above = None;
     let mut last = None;
-    let mut var = 264;
-    for place in 0..u.len() as u32 {
+    let mut var = FIRST_HELPER;
+    for place in 0..u.len() {
         let rule = u.rule(place);
         let own = rule.rank();
         above = higher(own, before, last, above);
@@ -134,12 +135,12 @@ pub(crate) fn push_hidden(
 
 /// The clause that says that some rule matches: the second helper of the last one does, where there is one.
 fn matched(alloc: Global, u: &Undone, vars: u32) -> Result<Clause, OutOfMemory>
-    requires { vars ≡ 264 + 2 * length u.now }
-    ensures value { IfOk result (λ clause. clause ≡ matched 264 [] u.now) }
+    requires { vars ≡ header_size + 2 * length u.now }
+    ensures value { IfOk result (λ clause. clause ≡ matched header_size [] u.now) }
     ensures within { IfOk result (Within vars) }
 {
     let mut clause = Clause::new(alloc);
-    if vars <= 264 {
+    if vars <= FIRST_HELPER {
         return Ok(clause);
     }
     clause.push(true_at(vars - 1))?;
@@ -153,8 +154,8 @@ pub(crate) fn push_not_missed(
     u: &Undone,
     shape: Option<Shape>,
 ) -> Result<(), OutOfMemory>
-    requires { f.old.vars ≡ 264 + 2 * length u.now }
-    ensures pushed { OnOk result (f.new ≡ appended f.old (not_missed 264 shape u.now)) }
+    requires { f.old.vars ≡ header_size + 2 * length u.now }
+    ensures pushed { OnOk result (f.new ≡ appended f.old (not_missed header_size shape u.now)) }
     ensures vars { f.new.vars ≡ f.old.vars }
 {
     let vars = f.vars();

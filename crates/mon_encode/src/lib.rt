@@ -28,12 +28,10 @@ mod clauses;
 mod decoding;
 mod encoding;
 mod hidden;
-mod keeping;
 mod listing;
 mod showing;
 #[cfg(test)]
 mod tests;
-mod undone;
 mod winning;
 
 pub use case::{Case, Cases};

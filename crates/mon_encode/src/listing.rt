@@ -4,13 +4,10 @@ ghost use Rattle.std.specs.Prelude.{◌≡◌, ◌++◌, true, Some, IfOk, OnOk}
 ghost use Rattle.mon_header.specs.declared.header.Header.{Header};
 ghost use Rattle.mon_outcome.specs.declared.emission.Emission.{Emission};
 ghost use Rattle.mon_shows.specs.Separation.{separates};
-ghost use Rattle.mon_job.specs.Jobs.{IsIn};
 ghost use Rattle.mon_encode.specs.declared.case.Case.{Case};
 ghost use Rattle.mon_encode.specs.Cases.{of_rule, of_miss, of_any, by_winner, by_port, cases_of, IsCaseOf, BelongsTo};
 
 use crate::case::{Case, Cases};
-use crate::keeping::look_at;
-use crate::undone::own_place;
 use mon_job::Job;
 use mon_list::OutOfMemory;
 use mon_outcome::{Class, rewrites};
@@ -85,12 +82,12 @@ fn push_winners(
     t: &Table,
     x: &Target,
 ) -> Result<(), OutOfMemory>
-    requires { IsIn t.now x.now }
     ensures { OnOk result (cases.new ≡ cases.old ++ by_winner t.now x.now class in_port) }
 {
     match x {
         Target::Put { rule, .. } | Target::Watch { rule } => {
-            push_rule(alloc, cases, class, in_port, own_place(t, rule), rule)
+            let place = t.place_of(&rule.matching, rule.priority);
+            push_rule(alloc, cases, class, in_port, place, rule)
         }
         Target::Cut { .. } => push_any(alloc, cases, class, in_port, t),
     }
@@ -105,7 +102,6 @@ fn push_ports(
     t: &Table,
     x: &Target,
 ) -> Result<(), OutOfMemory>
-    requires { IsIn t.now x.now }
     ensures { OnOk result (cases.new ≡ cases.old ++ by_port t.now x.now class links.now) }
 {
     for near in links.items() {
@@ -134,6 +130,6 @@ pub fn cases(alloc: Global, j: &Job) -> Result<Cases, OutOfMemory>
     ensures complete { (h : Header) (e : Emission) → separates j.now.view j.now.table j.now.target h e ≡ true
         → (c : Case) × IsCaseOf j.now c × BelongsTo j.now c h e }
 {
-    look_at(j);
+    j.keeps();
     listed(alloc, j)
 }

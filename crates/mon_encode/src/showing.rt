@@ -1,9 +1,8 @@
 //! What a case's emission can show whatever the header.
 
 ghost use Rattle.std.specs.Prelude.{◌≡◌, ◌&&◌, IfOk};
-ghost use Rattle.mon_encode.specs.Cases.{winner_at, shape_of, given};
+ghost use Rattle.mon_encode.specs.Cases.{HasWinner, winner_at, shape_of, given};
 ghost use Rattle.mon_encode.specs.Formulas.{tagged, is_known, comes_back};
-ghost use Rattle.mon_encode.specs.Keeping.{HasWinner};
 
 use crate::case::Case;
 use mon_header::Header;

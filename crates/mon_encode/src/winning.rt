@@ -1,9 +1,10 @@
 //! The winner of a case: one rule alone, or none.
 
 ghost use Rattle.std.specs.Prelude.{◌≡◌, ◌<◌, ◌≤◌, map, length, OnOk};
+ghost use Rattle.mon_header.specs.Places.{header_size};
 ghost use Rattle.mon_literals.specs.Clauses.{appended};
 ghost use Rattle.mon_encode.specs.Clauses.{unmatched, beaten, winning};
-ghost use Rattle.mon_encode.specs.Keeping.{HasWinner};
+ghost use Rattle.mon_encode.specs.Cases.{HasWinner};
 
 use crate::clauses::unmatched;
 use mon_cnf::{Formula, OutOfMemory};
@@ -13,7 +14,7 @@ use std::alloc::Global;
 
 /// No rule matches.
 fn push_none(alloc: Global, f: &mut Formula, t: &Table) -> Result<(), OutOfMemory>
-    requires { 264 ≤ f.old.vars }
+    requires { header_size ≤ f.old.vars }
     ensures pushed { OnOk result (f.new ≡ appended f.old (map unmatched t.now)) }
     ensures vars { f.new.vars ≡ f.old.vars }
 {
@@ -31,7 +32,7 @@ fn push_beaten(
     winner: u32,
     least: u32,
 ) -> Result<(), OutOfMemory>
-    requires { 264 ≤ f.old.vars }
+    requires { header_size ≤ f.old.vars }
     ensures pushed { OnOk result (f.new ≡ appended f.old (beaten winner least 0 t.now)) }
     ensures vars { f.new.vars ≡ f.old.vars }
 {
@@ -47,7 +48,7 @@ fn push_beaten(
 
 /// The rule at the winner's place matches, and beats the others.
 fn push_won(alloc: Global, f: &mut Formula, t: &Table, winner: u32) -> Result<(), OutOfMemory>
-    requires vars { 264 ≤ f.old.vars }
+    requires vars { header_size ≤ f.old.vars }
     requires within { winner < length t.now }
     ensures pushed { OnOk result (f.new ≡ appended f.old (winning (Some winner) t.now)) }
     ensures vars { f.new.vars ≡ f.old.vars }
@@ -65,7 +66,7 @@ pub(crate) fn push_winning(
     t: &Table,
     winner: Option<u32>,
 ) -> Result<(), OutOfMemory>
-    requires vars { 264 ≤ f.old.vars }
+    requires vars { header_size ≤ f.old.vars }
     requires within { HasWinner t.now winner }
     ensures pushed { OnOk result (f.new ≡ appended f.old (winning winner t.now)) }
     ensures vars { f.new.vars ≡ f.old.vars }

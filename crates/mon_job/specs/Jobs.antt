@@ -1,12 +1,16 @@
 -- What a job asks.
 use Rattle.std.specs.Prelude.{◌≡◌, ℕ, List, Some, None}
 use Rattle.mon_list.specs.Has.{Has}
+use Rattle.mon_header.specs.Actions.{AllFit}
+use Rattle.mon_header.specs.Matching.{IsNormal}
 use Rattle.mon_table.specs.declared.rule.Rule.{Rule}
 use Rattle.mon_table.specs.Rules.{identity_of}
-use Rattle.mon_table.specs.Tables.{rule_of, slice}
+use Rattle.mon_table.specs.Edits.{edited}
+use Rattle.mon_table.specs.Tables.{IsTable, AllActionsFit, rule_of, slice}
 use Rattle.mon_shows.specs.declared.target.Target.{Target}
 use Rattle.mon_shows.specs.declared.target.Target.TheVariants.{Put, Cut, Watch}
-use Rattle.mon_shows.specs.Views.{Viewing}
+use Rattle.mon_shows.specs.Separation.{taken_back}
+use Rattle.mon_shows.specs.Views.{Viewing, IsView}
 
 -- the numbers of a job, and what it asks: which packet shows, in this view, that the target's update is in the table
 pub record Task : Type 0 where
@@ -42,6 +46,16 @@ IsIn t (Watch r) = Has t r
 pub record IsJob (t : List Rule) (x : Target) : Type 0 where
   pub own : ReplacesItsOwn x
   pub there : IsIn t x
+
+-- what a job and its parts keep: the update is in the table; the table, the view, and the rule that taking the update
+-- back puts or cuts are well made
+pub record Kept (j : Task) : Type 0 where
+  pub job : IsJob j.table j.target
+  pub table : IsTable j.table
+  pub fit : AllActionsFit j.table
+  pub view : IsView j.view
+  pub back_normal : IsNormal (edited (taken_back j.target)).matching
+  pub back_fit : AllFit (edited (taken_back j.target)).actions
 
 -- the job over those rules of its table that overlap the match of the target's rule
 abbrev pub sliced : Task → Task

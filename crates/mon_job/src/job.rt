@@ -1,5 +1,7 @@
 //! Jobs.
 
+ghost use Rattle.mon_job.specs.Jobs.{Kept};
+
 use mon_shows::{Target, View};
 use mon_table::Table;
 use std::marker::Model;
@@ -31,4 +33,15 @@ impl Model for Job {
     ghost view = { λ j. record { number = j.number; session = j.session; slot = j.slot; edit = j.edit; version = j.version; view = j.view; table = j.table; target = j.target } };
 
     ghost invariant = { λ j. IsJob j.table j.target };
+}
+
+impl Job {
+    /// Does nothing: its clause is what a job and its parts keep.
+    pub fn keeps(&self)
+        ensures { Kept self.now }
+    {
+        self.table.keeps();
+        self.target.keeps();
+        self.view.keeps();
+    }
 }

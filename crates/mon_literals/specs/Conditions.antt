@@ -3,6 +3,7 @@ use Rattle.std.specs.Prelude.{ℕ, ◌+◌, Bool, nat_le, List, [], ◌∷◌, �
 use Rattle.mon_cnf.specs.declared.clause.Lit.{Lit}
 use Rattle.mon_header.specs.declared.class.Class.{Class}
 use Rattle.mon_header.specs.declared.class.Class.TheVariants.{Tcp, Udp, Icmp, OtherIpv4, Plain}
+use Rattle.mon_header.specs.Places.{header_size}
 use Rattle.mon_shows.specs.Views.{Viewing}
 use Rattle.mon_literals.specs.declared.condition.Condition.{Condition}
 use Rattle.mon_literals.specs.declared.condition.Condition.TheVariants.{Is, IsNot}
@@ -11,8 +12,8 @@ use Rattle.mon_literals.specs.Clauses.{denied, alone}
 
 -- the run ends within the bits of a header
 abbrev pub is_in_header : Condition → Bool
-is_in_header (Is r) = nat_le (r.start + r.count) 264
-is_in_header (IsNot r) = nat_le (r.start + r.count) 264
+is_in_header (Is r) = nat_le (r.start + r.count) header_size
+is_in_header (IsNot r) = nat_le (r.start + r.count) header_size
 
 -- the type of a frame without a further header that a switch reads: one of at least 0x0600, by its upper seven bits, and
 -- none of these

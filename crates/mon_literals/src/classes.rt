@@ -2,6 +2,7 @@
 
 ghost use Rattle.std.specs.Prelude.{◌≡◌, ◌≤◌, OnOk, IsTrue, flat_map};
 ghost use Rattle.std.specs.List.{list_all};
+ghost use Rattle.mon_header.specs.Places.{header_size};
 ghost use Rattle.mon_literals.specs.Clauses.{appended};
 ghost use Rattle.mon_literals.specs.Conditions.{is_in_header, asked, shared_of, plain_type, no_network_fields, form_of, class_clauses};
 
@@ -62,7 +63,7 @@ fn no_network_fields() -> [Condition; 6]
 }
 
 fn push_condition(alloc: Global, f: &mut Formula, condition: Condition) -> Result<(), OutOfMemory>
-    requires vars { 264 ≤ f.old.vars }
+    requires vars { header_size ≤ f.old.vars }
     requires within { IsTrue (is_in_header condition) }
     ensures pushed { OnOk result (f.new ≡ appended f.old (asked condition)) }
     ensures vars { f.new.vars ≡ f.old.vars }
@@ -85,7 +86,7 @@ fn push_conditions(
     f: &mut Formula,
     conditions: &[Condition],
 ) -> Result<(), OutOfMemory>
-    requires vars { 264 ≤ f.old.vars }
+    requires vars { header_size ≤ f.old.vars }
     requires within { IsTrue (list_all is_in_header conditions.now) }
     ensures pushed { OnOk result (f.new ≡ appended f.old (flat_map asked conditions.now)) }
     ensures vars { f.new.vars ≡ f.old.vars }
@@ -98,7 +99,7 @@ fn push_conditions(
 
 /// What the class asks.
 fn push_form(alloc: Global, f: &mut Formula, class: Class) -> Result<(), OutOfMemory>
-    requires { 264 ≤ f.old.vars }
+    requires { header_size ≤ f.old.vars }
     ensures pushed { OnOk result (f.new ≡ appended f.old (flat_map asked (form_of class))) }
     ensures vars { f.new.vars ≡ f.old.vars }
 {
@@ -144,7 +145,7 @@ pub fn push_class(
     class: Class,
     in_port: u16,
 ) -> Result<(), OutOfMemory>
-    requires { 264 ≤ f.old.vars }
+    requires { header_size ≤ f.old.vars }
     ensures pushed { OnOk result (f.new ≡ appended f.old (class_clauses view.now class in_port)) }
     ensures vars { f.new.vars ≡ f.old.vars }
 {

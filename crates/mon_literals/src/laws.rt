@@ -8,7 +8,7 @@ ghost use Rattle.mon_header.specs.declared.class.Class.{Class};
 ghost use Rattle.mon_header.specs.declared.header.Header.{Header};
 ghost use Rattle.mon_header.specs.Classes.{fits, is_in_class};
 ghost use Rattle.mon_header.specs.Matching.{Matching, IsNormal, matches};
-ghost use Rattle.mon_header.specs.Places.{header_bits};
+ghost use Rattle.mon_header.specs.Places.{header_size, header_bits};
 ghost use Rattle.mon_header.specs.Same.{same_header};
 ghost use Rattle.mon_outcome.specs.declared.rewrite.Rewrite.{Rewrite};
 ghost use Rattle.mon_outcome.specs.Filling.{filled};
@@ -19,7 +19,7 @@ ghost use Rattle.mon_literals.specs.Patterns.{pattern_of};
 ghost use Rattle.mon_literals.specs.Conditions.{class_clauses};
 ghost use Rattle.mon_literals.specs.Differing.{FitsFields, differ};
 
-/// Each assignment bears the header of its first 264 values and no other, and the bits of a header bear it, whatever
+/// Each assignment bears the header of its first values, as many as a header has bits, and no other, and the bits of a header bear it, whatever
 /// stands behind them.
 pub fn values_bear_one_header()
     ensures some { (v : ℕ → Bool) → Bears v (borne v) }
@@ -57,7 +57,7 @@ pub fn clauses_that_differ()
 
 /// The literals are of the variables of a header's bits.
 pub fn literals_are_of_bits()
-    ensures pattern { (m : Matching) → Within 264 (pattern_of m) }
-    ensures class { (view : Viewing) (c : Class) (in_port : ℕ) → WithinAll 264 (class_clauses view c in_port) }
-    ensures differ { (a b : Rewrite) (d : List Lit) → differ a b ≡ Some d → Within 264 d }
+    ensures pattern { (m : Matching) → Within header_size (pattern_of m) }
+    ensures class { (view : Viewing) (c : Class) (in_port : ℕ) → WithinAll header_size (class_clauses view c in_port) }
+    ensures differ { (a b : Rewrite) (d : List Lit) → differ a b ≡ Some d → Within header_size d }
 {}

@@ -12,8 +12,6 @@
 #![tactic(auto)]
 
 mod bearing;
-#[cfg(test)]
-mod cases;
 mod classes;
 mod clauses;
 mod condition;
@@ -21,6 +19,8 @@ mod differing;
 pub mod laws;
 mod matching;
 mod run;
+#[cfg(test)]
+mod tests;
 
 pub use bearing::borne;
 pub use classes::push_class;

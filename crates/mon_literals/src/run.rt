@@ -7,7 +7,7 @@ ghost use Rattle.mon_literals.specs.Runs.{spelled};
 
 use mon_cnf::{Clause, Lit, OutOfMemory};
 
-/// Bits of a header that stand one after the other, from a place below 264 on (`mon_header::bit`), and the number that
+/// Bits of a header that stand one after the other, from a place below `HEADER_BITS` on (`mon_header::bit`), and the number that
 /// they spell, the most significant bit first. The fields begin at the places `in_port` 0, `dl_src` 16, `dl_dst` 64,
 /// `dl_vlan` 112, `dl_vlan_pcp` 128, `dl_type` 136, `nw_tos` 152, `nw_proto` 160, `nw_src` 168, `nw_dst` 200, `tp_src`
 /// 232 and `tp_dst` 248.

@@ -1,4 +1,3 @@
-pub mod Following
 pub mod Planning
 pub mod Ranging
 pub mod Checking

@@ -3,14 +3,12 @@
 ghost use Rattle.std.specs.Prelude.{◌≡◌, ◌<◌, length, slice_get, Some, IfOk};
 ghost use Rattle.std.specs.Bool.{OnTrue};
 ghost use Rattle.mon_list.specs.Has.{Has};
-ghost use Rattle.mon_header.specs.Actions.{AllFit};
 ghost use Rattle.mon_table.specs.declared.rule.Rule.{Rule};
 ghost use Rattle.mon_table.specs.Tables.{IsTable};
 ghost use Rattle.mon_certificate_file.specs.CertificateFile.{IsCertificateInRange};
 ghost use Rattle.mon_solve.specs.Accepting.{is_accepted, CertificateIsTrue};
 ghost use Rattle.mon_plan.specs.Planning.{watch_of, job_of, IsCertificate};
 
-use crate::view::copied;
 use mon_certificate::Certificate;
 use mon_job::Job;
 use mon_list::OutOfMemory;
@@ -24,7 +22,7 @@ fn job(alloc: Global, v: &View, t: &Table, rule: &Rule) -> Result<Job, OutOfMemo
     requires { Has t.now rule.now }
     ensures { IfOk result (λ j. j ≡ job_of v.now t.now rule.now) }
 {
-    let view = copied(alloc, v)?;
+    let view = v.copied(alloc)?;
     let table = t.slice(alloc, &rule.matching)?;
     let rule = rule.copied(alloc)?;
     Ok(Job {
@@ -48,13 +46,6 @@ pub fn job_at(alloc: Global, v: &View, t: &Table, place: u32) -> Result<Job, Out
     job(alloc, v, t, t.rule(place))
 }
 
-/// Looks at a rule, which changes nothing: only that shows that the numbers of its actions fit.
-fn look_at(rule: &Rule)
-    ensures { AllFit rule.now.actions }
-{
-    let _ = rule.actions.items();
-}
-
 /// The certificate of a rule of the table.
 pub(crate) fn certificate_of(
     alloc: Global,
@@ -67,7 +58,7 @@ pub(crate) fn certificate_of(
     ensures certificate { IfOk result (IsCertificate v.now t.now rule.now) }
     ensures range { IfOk result IsCertificateInRange }
 {
-    look_at(rule);
+    rule.keeps();
     let job = job(alloc, v, t, rule)?;
     certificate(alloc, &job)
 }

@@ -18,7 +18,6 @@ mod plan;
 mod summary;
 #[cfg(test)]
 mod tests;
-mod view;
 
 pub use check::{Checked, check_table};
 pub use job::job_at;

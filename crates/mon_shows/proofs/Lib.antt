@@ -1,4 +1,5 @@
 pub mod Seeing
 pub mod Keeping
+pub mod Following
 pub mod Looking
 pub mod Undoing

@@ -16,7 +16,7 @@ use Rattle.mon_table.proofs.Members.{places-shown}
 use Rattle.mon_outcome.specs.declared.emission.Emission.{Emission}
 use Rattle.mon_outcome.specs.Emitting.{must, may}
 use Rattle.mon_shows.specs.Separation.{is_miss, is_sure, is_possible}
-use Rattle.mon_shows.specs.Scanning.{any_at, is_sure_in, any_may_at}
+use Rattle.mon_shows.specs.Scanning.{any_at, is_sure_in, any_may_at, is_possible_in}
 
 -- the rules from a place on
 pub rest-is : (t : List Rule) (n : ℕ) (r : Rule) → n < length t → r ≡ get_or t n r → drop n t ≡ r ∷ drop (suc n) t
@@ -103,27 +103,40 @@ any-filter p q (r ∷ t) =
       | false ↦ any-filter p q t
     ]
 
-possible-at : (h : Header) (n : ℕ) (e : Emission) (t : List Rule) → top_rank h t ≡ Some n → is_possible (filter (is_at_rank h n) t) h e ≡ any_may_at h n e t
-possible-at h n e [] top = absurd (let f : ⊥ = cc in f)
-possible-at h n e (r ∷ t) top = ⊎_elim
+possible-matched : (h : Header) (e : Emission) (r : Rule) (t : List Rule) → matches r.matching h ≡ true → is_possible_in (r ∷ t) h e ≡ (may r.actions h e || any_may_at h (rank r) e t)
+possible-matched h e r t m = rw m refl
+
+possible-passed : (h : Header) (e : Emission) (r : Rule) (t : List Rule) → matches r.matching h ≡ false → is_possible_in (r ∷ t) h e ≡ is_possible_in t h e
+possible-passed h e r t m = rw m refl
+
+possible-some : (h : Header) (n : ℕ) (e : Emission) (t : List Rule) → top_rank h t ≡ Some n → is_possible (filter (is_at_rank h n) t) h e ≡ is_possible_in t h e
+possible-some h n e [] top = absurd (let f : ⊥ = cc in f)
+possible-some h n e (r ∷ t) top = ⊎_elim
     (λ m.
     let given : Some (rank r) ≡ Some n = sym (top-matched h r t m) ∙ top in
     let same : rank r ≡ n = cc in
-    subst (λ (k : ℕ). is_possible (filter (is_at_rank h k) (r ∷ t)) h e ≡ any_may_at h k e (r ∷ t)) same
+    subst (λ (k : ℕ). is_possible (filter (is_at_rank h k) (r ∷ t)) h e ≡ is_possible_in (r ∷ t) h e) same
     (ap (λ (ws : List Rule). is_possible ws h e) (filter-in (is_at_rank h (rank r)) r t (first-at h r m))
     ∙ (ap (λ (b : Bool). may r.actions h e || b) (any-filter (is_at_rank h (rank r)) (λ s. may s.actions h e) t)
-    ∙ ap (λ (b : Bool). (b && may r.actions h e) || any_may_at h (rank r) e t) (sym (first-at h r m)))))
+    ∙ sym (possible-matched h e r t m))))
     (λ m.
     ap (λ (ws : List Rule). is_possible ws h e) (filter-out (is_at_rank h n) r t (and_right _ _ m))
-    ∙ (possible-at h n e t (sym (top-passed h r t m) ∙ top)
-    ∙ ap (λ (b : Bool). (b && may r.actions h e) || any_may_at h n e t) (sym (and_right (rank r == n) _ m))))
+    ∙ (possible-some h n e t (sym (top-passed h r t m) ∙ top) ∙ sym (possible-passed h e r t m)))
     (cases_Bool (matches r.matching h))
 
-pub possible-some : (h : Header) (n : ℕ) (e : Emission) (t : List Rule) → InOrder t → top_rank h t ≡ Some n → any_may_at h n e t ≡ is_possible (winners t h) h e
-possible-some h n e t o top = sym (possible-at h n e t top) ∙ ap (λ (ws : List Rule). is_possible ws h e) (sym (winners-some h n t o top))
+possible-none : (h : Header) (e : Emission) (t : List Rule) → top_rank h t ≡ None → is_miss h e ≡ is_possible_in t h e
+possible-none h e [] top = refl
+possible-none h e (r ∷ t) top = ⊎_elim
+    (λ m. absurd (let given : Some (rank r) ≡ None = sym (top-matched h r t m) ∙ top in let f : ⊥ = cc in f))
+    (λ m. possible-none h e t (sym (top-passed h r t m) ∙ top) ∙ sym (possible-passed h e r t m))
+    (cases_Bool (matches r.matching h))
 
-pub possible-none : (h : Header) (e : Emission) (t : List Rule) → top_rank h t ≡ None → is_miss h e ≡ is_possible (winners t h) h e
-possible-none h e t top = ap (λ (ws : List Rule). is_possible ws h e) (sym (winners-none h t top))
+possible-by : (h : Header) (e : Emission) (t : List Rule) (o : Option ℕ) → InOrder t → top_rank h t ≡ o → is_possible_in t h e ≡ is_possible (winners t h) h e
+possible-by h e t None order top = sym (possible-none h e t top) ∙ ap (λ (ws : List Rule). is_possible ws h e) (sym (winners-none h t top))
+possible-by h e t (Some n) order top = sym (possible-some h n e t top) ∙ ap (λ (ws : List Rule). is_possible ws h e) (sym (winners-some h n t order top))
+
+pub possible-is : (h : Header) (e : Emission) (t : List Rule) → InOrder t → is_possible_in t h e ≡ is_possible (winners t h) h e
+possible-is h e t order = possible-by h e t (top_rank h t) order refl
 
 -- behind a rule of a lower effective priority none of a higher one stands
 below : (h : Header) (n : ℕ) (r : Rule) (t : List Rule) → rank r < n → AllByRecursion (λ s. comes_before (identity_of r) (identity_of s) ≡ true) t → any_at h n t ≡ false
@@ -140,14 +153,14 @@ none-below h n t k r lt e o low =
     let out : is_at_rank h n r ≡ false = and_left _ _ (ne_eqb (rank r) n (λ e. omega arith)) in
     subst (λ (u : List Rule). any_at h n u ≡ false) (sym rest) (rw out (below h n r (drop (suc k) t) low order.0))
 
--- nor does one that may emit something, where an identity is left out
-pub fewer : (h : Header) (n : ℕ) (e : Emission) (p : Rule → Bool) (t : List Rule) → any_at h n t ≡ false → any_may_at h n e (filter p t) ≡ false
-fewer h n e p [] f = refl
-fewer h n e p (r ∷ t) f =
-    elim (is_at_rank h n r) as (λ b. is_at_rank h n r ≡ b → (b || any_at h n t) ≡ false → any_may_at h n e (filter p (r ∷ t)) ≡ false) [
-      | true ↦ λ y g. absurd (false≢true (sym g))
-      | false ↦ λ y g. ⊎_elim
-          (λ k. ap (any_may_at h n e) (filter-in p r t k) ∙ (ap (λ (b : Bool). (b && may r.actions h e) || any_may_at h n e (filter p t)) y ∙ fewer h n e p t g))
-          (λ k. ap (any_may_at h n e) (filter-out p r t k) ∙ fewer h n e p t g)
-          (cases_Bool (p r))
-    ] refl f
+-- nor does one that may emit something
+fewer : (h : Header) (n : ℕ) (e : Emission) (t : List Rule) → any_at h n t ≡ false → any_may_at h n e t ≡ false
+fewer h n e [] f = refl
+fewer h n e (r ∷ t) f =
+    elim (is_at_rank h n r) as (λ b. (b || any_at h n t) ≡ false → ((b && may r.actions h e) || any_may_at h n e t) ≡ false) [
+      | true ↦ λ g. absurd (false≢true (sym g))
+      | false ↦ λ g. fewer h n e t g
+    ] f
+
+pub none-may-below : (h : Header) (n : ℕ) (e : Emission) (t : List Rule) (k : ℕ) (r : Rule) → k < length t → r ≡ get_or t k r → InOrder t → rank r < n → any_may_at h n e (drop k t) ≡ false
+none-may-below h n e t k r lt is o low = fewer h n e (drop k t) (none-below h n t k r lt is o low)

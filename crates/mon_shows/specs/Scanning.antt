@@ -1,5 +1,5 @@
 -- How tables are gone through rule by rule, in table order.
-use Rattle.std.specs.Prelude.{ℕ, Bool, not, ◌==◌, nat_lt, ◌&&◌, if◌then◌else◌, List, [], ◌∷◌, Option, Some, None}
+use Rattle.std.specs.Prelude.{ℕ, Bool, not, ◌&&◌, ◌||◌, if◌then◌else◌, List, [], ◌∷◌}
 use Rattle.std.specs.List.{list_any}
 use Rattle.mon_header.specs.declared.header.Header.{Header}
 use Rattle.mon_header.specs.Matching.{matches}
@@ -24,15 +24,12 @@ is_sure_in (r ∷ t) h e = if matches r.matching h then not (any_at h (rank r) t
 abbrev pub may_at_rank : Header → ℕ → Emission → Rule → Bool
 may_at_rank h n e r = is_at_rank h n r && may r.actions h e
 
--- the rule has this effective priority, and may emit this
-abbrev pub may_here : ℕ → Header → Emission → Rule → Bool
-may_here n h e r = (rank r == n) && may r.actions h e
-
 -- one of the rules matches, has this effective priority, and may emit this
 abbrev pub any_may_at : Header → ℕ → Emission → List Rule → Bool
 any_may_at h n e t = list_any (may_at_rank h n e) t
 
--- the higher of an effective priority and another that may be there
-abbrev pub higher : ℕ → Option ℕ → ℕ
-higher m None = m
-higher m (Some n) = if nat_lt m n then n else m
+-- the first rule that matches may emit this, or one behind it that matches and has its effective priority; or none matches,
+-- and this is the miss
+abbrev pub is_possible_in : List Rule → Header → Emission → Bool
+is_possible_in [] h e = is_miss h e
+is_possible_in (r ∷ t) h e = if matches r.matching h then may r.actions h e || any_may_at h (rank r) e t else is_possible_in t h e

@@ -6,12 +6,11 @@
 //! it, and the table without the update cannot. Two winners of one priority are never sure: the standard leaves open
 //! which of them the switch takes.
 //!
-//! No call takes memory. So `separates` makes no second table: it goes through the one it has, where it leaves a rule
-//! out or counts one in, and stops behind the first effective priority that matches.
+//! Only the copy of a view takes memory. So `separates` makes no second table: the table without the update is an
+//! `Undone`, a view of the one it has, where a rule is left out, replaced or counted in. It stops behind the first
+//! effective priority that matches.
 #![tactic(auto)]
 
-#[cfg(test)]
-mod cases;
 pub mod laws;
 mod lookup;
 mod near;
@@ -19,6 +18,8 @@ mod seen;
 mod separate;
 mod sight;
 mod target;
+#[cfg(test)]
+mod tests;
 mod undone;
 mod view;
 
@@ -28,4 +29,5 @@ pub use seen::Seen;
 pub use separate::separates;
 pub use sight::{caught, craftable, observed};
 pub use target::Target;
+pub use undone::{Undone, without_update};
 pub use view::View;

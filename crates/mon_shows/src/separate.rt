@@ -3,10 +3,10 @@
 ghost use Rattle.std.specs.Prelude.{◌≡◌};
 ghost use Rattle.mon_shows.specs.Separation.{separates};
 
-use crate::lookup::is_sure;
+use crate::lookup::{is_possible, is_sure};
 use crate::sight::{caught, craftable};
 use crate::target::Target;
-use crate::undone::is_possible_undone;
+use crate::undone::without_update;
 use crate::view::View;
 use mon_header::Header;
 use mon_outcome::Emission;
@@ -19,5 +19,5 @@ use mon_table::Table;
 pub fn separates(v: &View, t: &Table, x: &Target, h: &Header, e: &Emission) -> bool
     ensures { result ≡ separates v.now t.now x.now h.now e.now }
 {
-    craftable(v, h) && is_sure(t, h, e) && caught(v, e) && !is_possible_undone(t, x, h, e)
+    craftable(v, h) && is_sure(t, h, e) && caught(v, e) && !is_possible(&without_update(t, x), h, e)
 }

@@ -1,129 +1,141 @@
-//! What the table without an update can give for a header.
+//! The table without an update.
 
-ghost use Rattle.std.specs.Prelude.{◌≡◌, IsTrue};
-ghost use Rattle.mon_header.specs.Matching.{matches};
-ghost use Rattle.mon_table.specs.Rules.{identity_of, same_identity};
-ghost use Rattle.mon_table.specs.Tables.{without, with_rule};
-ghost use Rattle.mon_table.specs.Winners.{winners};
-ghost use Rattle.mon_table.specs.Places.{top_rank};
-ghost use Rattle.mon_shows.specs.Separation.{is_possible, without_update};
-ghost use Rattle.mon_shows.specs.Scanning.{any_may_at, may_here, higher};
+ghost use Rattle.std.specs.Prelude.{◌≡◌, ◌<◌, ◌≤◌, ◌+◌, ◌^◌, length, slice_index_or, if◌then◌else◌};
+ghost use Rattle.mon_table.specs.Rules.{identity_of};
+ghost use Rattle.mon_table.specs.Tables.{IsTable, AllActionsFit, without, with_rule};
+ghost use Rattle.mon_table.specs.Places.{place_of, stands_at};
+ghost use Rattle.mon_shows.specs.Separation.{without_update};
 
-use crate::lookup::is_miss;
 use crate::target::Target;
-use mon_header::{Header, matches, same_match};
-use mon_outcome::{Emission, may};
 use mon_table::{Rule, Table};
+use std::marker::Model;
 
-/// Whether two rules have one identity.
-#[tactic(auto, unfolding(mon_table::specs::Rules::same_identity))]
-fn is_same(rule: &Rule, other: &Rule) -> bool
-    ensures { result ≡ same_identity (identity_of rule.now) (identity_of other.now) }
-{
-    rule.rank() == other.rank() && same_match(&rule.matching, &other.matching)
+/// A table of which a rule is left out, replaced or counted in, seen as its rules, in table order. It is a view of the
+/// table, and no copy.
+#[derive(Drop)]
+pub struct Undone<'a> {
+    table: &'a Table,
+    /// How many rules of the table stand before the change.
+    place: u32,
+    /// The rule that stands there, if `comes`.
+    rule: &'a Rule,
+    comes: bool,
+    /// The place in the table from which its rules stand behind the change.
+    next: u32,
 }
 
-/// The effective priority of the first rule that matches the header, where one identity is left out.
-fn top_without(t: &Table, left_out: &Rule, h: &Header) -> Option<u32>
-    ensures { result ≡ top_rank h.now (without (identity_of left_out.now) t.now) }
-{
-    for place in 0..t.len() {
-        let rule = t.rule(place);
-        if matches(&rule.matching, h) && !is_same(rule, left_out) {
-            return Some(rule.rank());
+impl<'a> Model for Undone<'a> {
+    ghost use Rattle.std.specs.Prelude.{List, [], ◌∷◌, ◌++◌, take, drop, length, ◌≤◌, if◌then◌else◌};
+    ghost use Rattle.mon_table.specs.declared.rule.Rule.{Rule};
+    ghost use Rattle.mon_table.specs.Tables.{IsTable, AllActionsFit};
+
+    ghost Value = { List Rule };
+
+    ghost view = { λ u. take u.place u.table.now ++ ((if u.comes then u.rule.now ∷ [] else []) ++ drop u.next u.table.now) };
+
+    ghost invariant = { λ u. (u.place ≤ u.next) × (u.next ≤ length u.table.now)
+        × IsTable (take u.place u.table.now ++ ((if u.comes then u.rule.now ∷ [] else []) ++ drop u.next u.table.now))
+        × AllActionsFit (take u.place u.table.now ++ ((if u.comes then u.rule.now ∷ [] else []) ++ drop u.next u.table.now)) };
+}
+
+impl<'a> Undone<'a> {
+    /// Does nothing: its clauses are what the type keeps.
+    pub fn keeps(&self)
+        ensures table { IsTable self.now }
+        ensures fit { AllActionsFit self.now }
+    {
+        let _ = &self.table;
+    }
+
+    /// The number of rules.
+    pub fn len(&self) -> u64
+        ensures value { result ≡ length self.now }
+        ensures few { result ≤ 2 ^ 32 }
+    {
+        u64::from(self.place) + u64::from(self.comes) + u64::from(self.table.len() - self.next)
+    }
+
+    /// The rule at a place, counted from 0 in table order.
+    pub fn rule(&self, place: u64) -> &Rule
+        requires { place < length self.now }
+        ensures { result.now ≡ slice_index_or self.now place result.now }
+    {
+        self.table.keeps();
+        let first = u64::from(self.place);
+        if place < first {
+            return self.table.rule(place as u32);
         }
-    }
-    None
-}
-
-/// Whether a rule of this effective priority matches the header and may emit this, where one identity is left out. Lower
-/// ones are not looked at.
-fn any_may_at(t: &Table, left_out: &Rule, h: &Header, rank: u32, e: &Emission) -> bool
-    ensures { result ≡ any_may_at h.now rank e.now (without (identity_of left_out.now) t.now) }
-{
-    for place in 0..t.len() {
-        let rule = t.rule(place);
-        let own = rule.rank();
-        if own < rank {
-            return false;
+        let behind = place - first;
+        if !self.comes {
+            return self.table.rule((u64::from(self.next) + behind) as u32);
         }
-        if own == rank
-            && matches(&rule.matching, h)
-            && !is_same(rule, left_out)
-            && may(&rule.actions, h, e)
-        {
-            return true;
+        if behind == 0 {
+            return self.rule;
         }
-    }
-    false
-}
-
-/// Whether the table without the rule can show this.
-fn is_possible_without(t: &Table, rule: &Rule, h: &Header, e: &Emission) -> bool
-    ensures { result ≡ is_possible (winners (without (identity_of rule.now) t.now) h.now) h.now e.now }
-{
-    // Only a look at the table shows that its rules are in order.
-    let _ = t.len();
-    match top_without(t, rule, h) {
-        Some(top) => any_may_at(t, rule, h, top, e),
-        None => is_miss(h, e),
+        self.table.rule((u64::from(self.next) + (behind - 1)) as u32)
     }
 }
 
-/// The higher of an effective priority and another that may be there.
-fn higher(own: u32, other: Option<u32>) -> u32
-    ensures { result ≡ higher own other }
+/// The first place behind that of a rule's identity, where the table has a rule of it, and else its place.
+fn behind(t: &Table, place: u32, rule: &Rule) -> u32
+    requires { place ≤ length t.now }
+    ensures value { result ≡ (if stands_at (identity_of rule.now) place t.now then place + 1 else place) }
+    ensures least { place ≤ result }
+    ensures within { result ≤ length t.now }
 {
-    match other {
-        Some(other) if own < other => other,
-        _ => own,
+    t.keeps();
+    if t.stands_at(place, &rule.matching, rule.priority) {
+        return place + 1;
+    }
+    place
+}
+
+/// The table without a rule of this rule's identity.
+fn left_out<'a>(t: &'a Table, rule: &'a Rule) -> Undone<'a>
+    ensures { result ≡ without (identity_of rule.now) t.now }
+{
+    t.keeps();
+    rule.keeps();
+    let place = t.place_of(&rule.matching, rule.priority);
+    let next = behind(t, place, rule);
+    Undone {
+        table: t,
+        place,
+        rule,
+        comes: false,
+        next,
     }
 }
 
-/// Whether the rule has this effective priority and may emit this.
-fn may_here(rule: &Rule, rank: u32, h: &Header, e: &Emission) -> bool
-    ensures { result ≡ may_here rank h.now e.now rule.now }
+/// The table with the rule, in place of one of its identity.
+fn counted_in<'a>(t: &'a Table, rule: &'a Rule) -> Undone<'a>
+    ensures { result ≡ with_rule rule.now t.now }
 {
-    rule.rank() == rank && may(&rule.actions, h, e)
-}
-
-/// Whether the table with a rule that matches the header can show this.
-fn is_possible_matched(t: &Table, rule: &Rule, h: &Header, e: &Emission) -> bool
-    requires { IsTrue (matches rule.now.matching h.now) }
-    ensures { result ≡ is_possible (winners (with_rule rule.now t.now) h.now) h.now e.now }
-{
-    // Only a look at both shows that the rules are in order, and the match in its normal form.
-    let _ = t.len();
-    let _ = rule.matching.wild();
-    let top = higher(rule.rank(), top_without(t, rule, h));
-    may_here(rule, top, h, e) || any_may_at(t, rule, h, top, e)
-}
-
-/// Whether the table with the rule can show this. One that doesn't match the header changes nothing.
-fn is_possible_with(t: &Table, rule: &Rule, h: &Header, e: &Emission) -> bool
-    ensures { result ≡ is_possible (winners (with_rule rule.now t.now) h.now) h.now e.now }
-{
-    if matches(&rule.matching, h) {
-        return is_possible_matched(t, rule, h, e);
+    t.keeps();
+    rule.keeps();
+    let place = t.place_of(&rule.matching, rule.priority);
+    let next = behind(t, place, rule);
+    Undone {
+        table: t,
+        place,
+        rule,
+        comes: true,
+        next,
     }
-    // Only a look at both shows that the rules are in order, and the match in its normal form.
-    let _ = t.len();
-    let _ = rule.matching.wild();
-    is_possible_without(t, rule, h, e)
 }
 
-/// Whether the table without the target's update can show this: one of its winners may emit it, or it has none and this
-/// is the miss.
+/// The table without the target's update: without the rule that was put or is watched, with the old one in its place, or
+/// with the one that was cut. Its change is searched by halves, and nothing is copied.
 #[tactic(auto, unfolding(mon_table::specs::Edits::after))]
-pub(crate) fn is_possible_undone(t: &Table, x: &Target, h: &Header, e: &Emission) -> bool
-    ensures { result ≡ is_possible (winners (without_update t.now x.now) h.now) h.now e.now }
+pub fn without_update<'a>(t: &'a Table, x: &'a Target) -> Undone<'a>
+    ensures { result ≡ without_update t.now x.now }
 {
     match x {
         Target::Put { rule, old } => match old {
-            None => is_possible_without(t, rule, h, e),
-            Some(old) => is_possible_with(t, old, h, e),
+            None => left_out(t, rule),
+            Some(old) => counted_in(t, old),
         },
-        Target::Cut { rule } => is_possible_with(t, rule, h, e),
-        Target::Watch { rule } => is_possible_without(t, rule, h, e),
+        Target::Cut { rule } => counted_in(t, rule),
+        Target::Watch { rule } => left_out(t, rule),
     }
 }

@@ -1,4 +1,4 @@
-use Rattle.std.proofs.Common.{Bool, List, length, sym, ◌∙◌, ap, subst, arith}
+use Rattle.std.proofs.Common.{Bool, List, length, sym, ◌∙◌, ap, subst}
 use Rattle.mon_cnf.specs.Truth.{values_of, formula_true}
 use Rattle.mon_literals.specs.Bearing.{Bears}
 use Rattle.mon_encode.specs.Formulas.{clauses_of}
@@ -14,7 +14,7 @@ returns-clause-whole c =
 pub returns-clause-model : goal.returns-clause-model
 returns-clause-model c =
     if-ok c.values.result _ _ (λ bits e. ap (λ (x : List Bool). formula_true (values_of x) (clauses_of c.args.j.now c.args.c.now)) e
-    ∙ encoded-satisfies c.args.j.now c.args.c.now c.args.h.now c.requires.shows.0 (omega arith) c.look_at.ensures c.requires.of c.requires.shows.1 c.requires.shows.2) c.values.ensures
+    ∙ encoded-satisfies c.args.j.now c.args.c.now c.args.h.now c.requires.shows.0 c.keeps-2.ensures c.keeps.ensures c.requires.of c.requires.shows.1 c.requires.shows.2) c.values.ensures
 
 pub returns-clause-bears : goal.returns-clause-bears
 returns-clause-bears c =

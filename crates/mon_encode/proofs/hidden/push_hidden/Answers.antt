@@ -12,10 +12,10 @@ pub push_or_hidden-requires-clause-within : goal.push_or_hidden-requires-clause-
 push_or_hidden-requires-clause-within c =
     let i = c.loop-place.invariant in
     let v = i.vars in
-    let n = c.requires.vars in
+    let n = c.requires in
     let r = c.rule-rule.result.now in
     let g = slice_get-get_or c.args.u.now c.loop-place.place r (omega arith) ∙ ap Some (sym c.rule-rule.ensures) in
-    let h = higher-is c.args.u.now c.loop-place.place c.loop-place.before c.rank-own.result c.loop-place.above c.loop-place.last c.higher-above.result r c.requires.table.order i.stepped g c.rank-own.ensures c.higher-above.ensures in
+    let h = higher-is c.args.u.now c.loop-place.place c.loop-place.before c.rank-own.result c.loop-place.above c.loop-place.last c.higher-above.result r c.keeps-2.ensures.table.order i.stepped g c.rank-own.ensures c.higher-above.ensures in
     subst (Within c.loop-place.f.vars) (sym c.in_ok-base.ensures)
     (both_within c.loop-place.f.vars (unmatched r) (listed c.higher-above.result)
     (unmatched-fits c.loop-place.f.vars r (omega arith))
@@ -26,7 +26,7 @@ loop-place-preserved c =
     let i = c.loop-place.invariant in
     let r = c.rule-rule.result.now in
     let g = slice_get-get_or c.args.u.now c.loop-place.place r (omega arith) ∙ ap Some (sym c.rule-rule.ensures) in
-    let h = higher-is c.args.u.now c.loop-place.place c.loop-place.before c.rank-own.result c.loop-place.above c.loop-place.last c.higher-above.result r c.requires.table.order i.stepped g c.rank-own.ensures c.higher-above.ensures in
+    let h = higher-is c.args.u.now c.loop-place.place c.loop-place.before c.rank-own.result c.loop-place.above c.loop-place.last c.higher-above.result r c.keeps-2.ensures.table.order i.stepped g c.rank-own.ensures c.higher-above.ensures in
     record {
       vars = c.push_or_hidden.ensures.vars ∙ i.vars;
       var = (let v = i.var in omega arith);

@@ -7,4 +7,4 @@ returns-clause-certificate c = answered-certificate c.args.v.now c.args.t.now c.
     c.certificate.ensures.accepted c.certificate.ensures.truth c.certificate.ensures.kind
 
 pub returns-clause-range : goal.returns-clause-range
-returns-clause-range c = answered-range c.args.v.now c.args.t.now c.args.rule.now _ c.requires.table c.requires.there c.look_at.ensures (returns-clause-certificate c)
+returns-clause-range c = answered-range c.args.v.now c.args.t.now c.args.rule.now _ c.requires.table c.requires.there c.keeps.ensures.fit (returns-clause-certificate c)

@@ -1,7 +1,7 @@
 use Rattle.std.proofs.Common.{subst, sym}
 use Rattle.mon_topo.specs.Ascending.{AreVids}
-use Rattle.mon_plan.proofs.Following.{copy-follows}
-use Rattle.mon_plan.proofs.view.copied_tags.Goals as goal
+use Rattle.mon_shows.proofs.Following.{copy-follows}
+use Rattle.mon_shows.proofs.view.copied_tags.Goals as goal
 
 pub push-requires : goal.push-requires
 push-requires c = copy-follows _ _ c.loop-tag.tag-index 0

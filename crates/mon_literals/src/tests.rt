@@ -5,7 +5,7 @@ use crate::classes::push_class;
 use crate::differing::differ;
 use crate::matching::pattern;
 use mon_cnf::{Formula, Lit, OutOfMemory, holds};
-use mon_header::{Class, Header, Match, bit, same_header};
+use mon_header::{Class, HEADER_BITS, Header, Match, bit, same_header};
 use mon_list::Items;
 use mon_outcome::Rewrite;
 use mon_shows::{Near, View};
@@ -83,9 +83,9 @@ fn view(alloc: Global) -> Result<View, OutOfMemory> {
     })
 }
 
-fn bits(h: &Header) -> [bool; 264] {
-    let mut bits = [false; 264];
-    for place in 0..264_u16 {
+fn bits(h: &Header) -> [bool; HEADER_BITS as usize] {
+    let mut bits = [false; HEADER_BITS as usize];
+    for place in 0..HEADER_BITS {
         bits[usize::from(place)] = bit(h, place);
     }
     bits
@@ -118,96 +118,33 @@ fn a_match_is_the_bits_that_it_compares(rt: HostRuntime) -> Result<(), Fail> {
 
 /// Whether the bits of a header satisfy the clauses of a class at port 1.
 fn is_asked(alloc: Global, view: &View, class: Class, h: &Header) -> Result<bool, OutOfMemory> {
-    let mut f = Formula::new(alloc, 264);
+    let mut f = Formula::new(alloc, u32::from(HEADER_BITS));
     push_class(alloc, &mut f, view, class, 1)?;
     Ok(holds(&f, &bits(h)))
 }
 
 #[test]
-fn a_class_has_its_own_headers(rt: HostRuntime) -> Result<(), Fail> {
+fn classes_have_headers_of_probes(rt: HostRuntime) -> Result<(), Fail> {
     let view = view(rt.alloc())?;
-    let udp = |nw_proto| Header { nw_proto, ..PACKET };
-    for (h, own) in [
-        (udp(6), Class::Tcp),
-        (PACKET, Class::Udp),
-        (udp(1), Class::Icmp),
-        (udp(47), Class::OtherIpv4),
-        (FRAME, Class::Plain),
-    ] {
-        for class in [
-            Class::Tcp,
-            Class::Udp,
-            Class::Icmp,
-            Class::OtherIpv4,
-            Class::Plain,
-        ] {
-            assert!(rt;
-                is_asked(rt.alloc(), &view, class, &h)? == (class == own),
-                "{h:?}"
-            );
-        }
-    }
-    Ok(())
-}
-
-#[test]
-fn a_class_has_headers_of_probes(rt: HostRuntime) -> Result<(), Fail> {
-    let view = view(rt.alloc())?;
+    let ipv4 = |nw_proto| Header { nw_proto, ..PACKET };
     let to = |dl_dst| Header { dl_dst, ..PACKET };
-    for (h, wanted) in [
-        (PACKET, true),
-        (to(0x024d4f4e4f00), false),
-        (to(0x0180c1ffffff), true),
-        (to(0x0180c2000000), false),
-        (to(0x0180c200000f), false),
-        (to(0x0180c2000010), true),
-        (
-            Header {
-                dl_src: 0x030000000001,
-                ..PACKET
-            },
-            false,
-        ),
-        (
-            Header {
-                in_port: 2,
-                ..PACKET
-            },
-            false,
-        ),
-        (
-            Header {
-                dl_vlan: 101,
-                ..PACKET
-            },
-            false,
-        ),
-        (
-            Header {
-                dl_vlan_pcp: 8,
-                ..PACKET
-            },
-            false,
-        ),
-        (
-            Header {
-                nw_tos: 2,
-                ..PACKET
-            },
-            false,
-        ),
+    let frame = |dl_type| Header { dl_type, ..FRAME };
+    for (class, h, wanted) in [
+        (Class::Tcp, ipv4(6), true),
+        (Class::Tcp, PACKET, false),
+        (Class::Udp, PACKET, true),
+        (Class::Icmp, ipv4(1), true),
+        (Class::OtherIpv4, ipv4(47), true),
+        (Class::OtherIpv4, PACKET, false),
+        (Class::Udp, to(0x024d4f4e4f00), false),
+        (Class::Udp, to(0x0180c200000f), false),
+        (Class::Udp, to(0x0180c2000010), true),
+        (Class::Plain, frame(0x05ff), false),
+        (Class::Plain, frame(0x0600), true),
+        (Class::Plain, frame(0x8100), false),
     ] {
-        assert!(rt;
-            is_asked(rt.alloc(), &view, Class::Udp, &h)? == wanted,
-            "{h:?}"
-        );
-    }
-    for (dl_type, wanted) in [(0x05ff, false), (0x0600, true), (0x8100, false)] {
-        let h = Header { dl_type, ..FRAME };
-        assert!(rt;
-            is_asked(rt.alloc(), &view, Class::Plain, &h)? == wanted,
-            "{dl_type}"
-        );
+        let asked = is_asked(rt.alloc(), &view, class, &h)?;
+        assert!(rt; asked == wanted, "{class:?} {h:?}");
     }
     Ok(())
 }

@@ -75,43 +75,10 @@ fn view(alloc: Global, miss: u16) -> Result<View, OutOfMemory> {
 fn views_show_what_was_worked_out(rt: HostRuntime) -> Result<(), Fail> {
     let v = view(rt.alloc(), 128)?;
     let to = |dl_dst| Header { dl_dst, ..PACKET };
+    let from = |in_port| Header { in_port, ..PACKET };
     for (h, wanted) in [
-        (PACKET, true),
-        (
-            Header {
-                in_port: 2,
-                ..PACKET
-            },
-            true,
-        ),
-        (
-            Header {
-                in_port: 3,
-                ..PACKET
-            },
-            false,
-        ),
-        (
-            Header {
-                dl_vlan: 101,
-                ..PACKET
-            },
-            false,
-        ),
-        (
-            Header {
-                dl_src: 0x030000000001,
-                ..PACKET
-            },
-            false,
-        ),
-        (
-            Header {
-                dl_type: 0x0806,
-                ..PACKET
-            },
-            false,
-        ),
+        (from(2), true),
+        (from(3), false),
         (to(0x024d4f4e4f00), false),
         (to(0x0180c1ffffff), true),
         (to(0x0180c2000000), false),
@@ -248,7 +215,7 @@ fn catching(alloc: Global) -> Result<Table, OutOfMemory> {
 
 /// Updates of the rule for 10.0.0.0/24.
 #[derive(Clone, Copy, Debug)]
-enum Case {
+enum Update {
     /// It outputs to port 2 and is put, watched or cut.
     Put,
     Watch,
@@ -262,22 +229,22 @@ enum Case {
 }
 
 /// The rule that is put, watched or cut.
-fn rule_of(alloc: Global, case: Case) -> Result<Rule, OutOfMemory> {
-    match case {
-        Case::Put | Case::Watch | Case::Cut | Case::Narrowed => to_24(alloc, &[2]),
-        Case::Moved => to_24(alloc, &[1]),
-        Case::Dropping => to_24(alloc, &[]),
+fn rule_of(alloc: Global, update: Update) -> Result<Rule, OutOfMemory> {
+    match update {
+        Update::Put | Update::Watch | Update::Cut | Update::Narrowed => to_24(alloc, &[2]),
+        Update::Moved => to_24(alloc, &[1]),
+        Update::Dropping => to_24(alloc, &[]),
     }
 }
 
-fn target(alloc: Global, case: Case) -> Result<Target, OutOfMemory> {
-    let rule = rule_of(alloc, case)?;
-    match case {
-        Case::Put | Case::Dropping => Ok(Target::Put { rule, old: None }),
-        Case::Watch => Ok(Target::Watch { rule }),
-        Case::Cut => Ok(Target::Cut { rule }),
-        Case::Narrowed => with_old(alloc, rule, &[1, 2, 3]),
-        Case::Moved => with_old(alloc, rule, &[2]),
+fn target(alloc: Global, update: Update) -> Result<Target, OutOfMemory> {
+    let rule = rule_of(alloc, update)?;
+    match update {
+        Update::Put | Update::Dropping => Ok(Target::Put { rule, old: None }),
+        Update::Watch => Ok(Target::Watch { rule }),
+        Update::Cut => Ok(Target::Cut { rule }),
+        Update::Narrowed => with_old(alloc, rule, &[1, 2, 3]),
+        Update::Moved => with_old(alloc, rule, &[2]),
     }
 }
 
@@ -288,10 +255,10 @@ fn with_old(alloc: Global, rule: Rule, ports: &[u16]) -> Result<Target, OutOfMem
 
 /// The catching rules, the rule where it wasn't cut, and a lower rule that outputs to port 2 where one is asked
 /// for.
-fn table_after(alloc: Global, case: Case, lower: bool) -> Result<Table, OutOfMemory> {
+fn table_after(alloc: Global, update: Update, lower: bool) -> Result<Table, OutOfMemory> {
     let mut table = catching(alloc)?;
-    if !matches!(case, Case::Cut) {
-        let _ = table.put(rule_of(alloc, case)?)?;
+    if !matches!(update, Update::Cut) {
+        let _ = table.put(rule_of(alloc, update)?)?;
     }
     if lower {
         let _ = table.put(ipv4(alloc, 0x003820ef, 0, 0, 50)?)?;
@@ -304,11 +271,11 @@ fn does_separate(
     alloc: Global,
     miss: u16,
     table: &Table,
-    case: Case,
+    update: Update,
     h: &Header,
     e: &Emission,
 ) -> Result<bool, OutOfMemory> {
-    let x = target(alloc, case)?;
+    let x = target(alloc, update)?;
     let v = view(alloc, miss)?;
     Ok(separates(&v, table, &x, h, e))
 }
@@ -321,22 +288,22 @@ fn packets_separate_as_worked_out(rt: HostRuntime) -> Result<(), Fail> {
         ..PACKET
     };
     let (by_2, miss) = (Emission::Port(2, PACKET), Emission::Miss(PACKET));
-    for (case, lower, miss_length, h, e, wanted) in [
-        (Case::Put, false, 128, PACKET, by_2, true),
-        (Case::Put, false, 128, back, Emission::Port(2, back), false),
-        (Case::Put, true, 128, PACKET, by_2, false),
-        (Case::Watch, false, 128, PACKET, by_2, true),
-        (Case::Cut, false, 128, PACKET, miss, true),
-        (Case::Cut, false, 127, PACKET, miss, false),
-        (Case::Cut, true, 128, PACKET, by_2, false),
-        (Case::Narrowed, false, 128, PACKET, by_2, false),
-        (Case::Moved, false, 128, back, Emission::Port(1, back), true),
-        (Case::Dropping, false, 128, PACKET, by_2, false),
-        (Case::Dropping, false, 128, PACKET, miss, false),
+    for (update, lower, miss_length, h, e, wanted) in [
+        (Update::Put, false, 128, PACKET, by_2, true),
+        (Update::Put, false, 128, back, Emission::Port(2, back), false),
+        (Update::Put, true, 128, PACKET, by_2, false),
+        (Update::Watch, false, 128, PACKET, by_2, true),
+        (Update::Cut, false, 128, PACKET, miss, true),
+        (Update::Cut, false, 127, PACKET, miss, false),
+        (Update::Cut, true, 128, PACKET, by_2, false),
+        (Update::Narrowed, false, 128, PACKET, by_2, false),
+        (Update::Moved, false, 128, back, Emission::Port(1, back), true),
+        (Update::Dropping, false, 128, PACKET, by_2, false),
+        (Update::Dropping, false, 128, PACKET, miss, false),
     ] {
-        let table = table_after(alloc, case, lower)?;
-        let answer = does_separate(alloc, miss_length, &table, case, &h, &e)?;
-        assert!(rt; answer == wanted, "{case:?} {lower} {miss_length}");
+        let table = table_after(alloc, update, lower)?;
+        let answer = does_separate(alloc, miss_length, &table, update, &h, &e)?;
+        assert!(rt; answer == wanted, "{update:?} {lower} {miss_length}");
     }
     Ok(())
 }

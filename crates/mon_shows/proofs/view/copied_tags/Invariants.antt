@@ -1,5 +1,5 @@
 use Rattle.std.proofs.Common.{◌≡◌, take}
-use Rattle.mon_plan.proofs.view.copied_tags.Given as goal
+use Rattle.mon_shows.proofs.view.copied_tags.Given as goal
 
 abbrev pub invariant-loop-tag : goal.invariant-loop-tag
 invariant-loop-tag l = l.copy ≡ take l.tag-index l.tag-items

@@ -1,5 +1,5 @@
 use Rattle.std.proofs.Common.{◌≡◌, take}
-use Rattle.mon_plan.proofs.view.copied_links.Given as goal
+use Rattle.mon_shows.proofs.view.copied_links.Given as goal
 
 abbrev pub invariant-loop-link : goal.invariant-loop-link
 invariant-loop-link l = l.copy ≡ take l.link-index l.link-items
