@@ -50,8 +50,7 @@ fn spelled(m: &Match) -> [u8; 40]
     ensures value { result ≡ spelled m.now }
     ensures read_back { m.now ≡ match_of result }
 {
-    // Only a look at the match shows that it is in its normalised form.
-    let _ = m.wild();
+    m.keeps();
     written_is_read();
     write_match(m)
 }

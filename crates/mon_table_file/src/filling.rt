@@ -18,7 +18,6 @@ pub fn table_of(alloc: Global, rules: Vec<Rule>) -> Result<Option<Table>, OutOfM
             None => {}
         }
     }
-    // A look at the table shows that it is in order.
-    let _ = table.len();
+    table.keeps();
     Ok(Some(table))
 }

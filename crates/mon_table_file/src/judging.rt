@@ -62,8 +62,7 @@ fn vids_of(alloc: Global, tags: &[u16]) -> Result<Option<Vids>, OutOfMemory>
         }
         vids.push(*tag)?;
     }
-    // A look at the ids shows that they ascend.
-    let _ = vids.items();
+    vids.keeps();
     Ok(Some(vids))
 }
 

@@ -48,6 +48,14 @@ impl Trace {
         self.events.len() as u64
     }
 
+    /// Does nothing: its clauses are what the type keeps.
+    pub(crate) fn keeps(&self)
+        ensures named { AllNamed 0 self.now.events }
+        ensures unstopped { NoStop self.now.events }
+    {
+        let _ = &self.events;
+    }
+
     pub(crate) fn events(&self) -> &Events
         ensures value { result.now ≡ self.now.events }
         ensures named { AllNamed 0 self.now.events }

@@ -47,7 +47,7 @@ impl TraceHub {
     pub fn new(alloc: Global, trace: Trace) -> Result<TraceHub, OutOfMemory>
         ensures { IfOk result (λ hub. hub ≡ record { events = trace.events; log = [] }) }
     {
-        let _ = trace.events();
+        trace.keeps();
         Ok(TraceHub {
             trace,
             number: 0,
@@ -62,7 +62,7 @@ impl TraceHub {
         ensures whole { StopsNow (inputs self.log) → inputs self.log ≡ Stop ∷ reverse self.events }
         ensures few { NoStop (inputs self.log) → length (inputs self.log) ≤ length self.events }
     {
-        let _ = self.trace.events();
+        self.trace.keeps();
         self.outputs.into_text()
     }
 

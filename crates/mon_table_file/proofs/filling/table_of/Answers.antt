@@ -31,5 +31,5 @@ pub returns : goal.returns
 returns c =
     let rest : into_iter_items c.loop-rule.rule-iterator ≡ [] = grind (arith, common_steps) in (
       fresh-apart c.args.rules.items (c.loop-rule.invariant.fresh (subst (λ (rs : List Rule). Fresh c.loop-rule.table rs) (sym rest) tt)),
-      record { table = c.len.ensures.table; members = share-all c.args.rules.items c.loop-rule.table (into_iter_items c.loop-rule.rule-iterator) rest c.loop-rule.invariant.share },
+      record { table = c.keeps.ensures.table; members = share-all c.args.rules.items c.loop-rule.table (into_iter_items c.loop-rule.rule-iterator) rest c.loop-rule.invariant.share },
     )

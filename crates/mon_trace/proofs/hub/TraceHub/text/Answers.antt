@@ -10,7 +10,7 @@ use Rattle.mon_trace.proofs.hub.TraceHub.text.Goals as goal
 pub returns-clause-whole : goal.returns-clause-whole
 returns-clause-whole c =
     subst (λ (r : Running). StopsNow (inputs r.log) → inputs r.log ≡ Stop ∷ reverse r.events) c.self.view_is
-    (whole c.self.inside.trace.events (inputs (woven c.self.inside.trace.events c.self.inside.number c.self.inside.outputs)) c.events.ensures.unstopped c.self.invariant.run.given)
+    (whole c.self.inside.trace.events (inputs (woven c.self.inside.trace.events c.self.inside.number c.self.inside.outputs)) c.keeps.ensures.unstopped c.self.invariant.run.given)
 
 pub returns-clause-few : goal.returns-clause-few
 returns-clause-few c =
