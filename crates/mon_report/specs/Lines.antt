@@ -1,7 +1,9 @@
--- How each line is spelled: an object of members in alphabetical order, with no space.
-use Rattle.std.specs.Prelude.{ℕ, List, [], ◌∷◌, ◌++◌, Option, Some, None, codes, decimal}
+-- What each line says: a JSON object of members in alphabetical order, and its text.
+use Rattle.std.specs.Prelude.{ℕ, List, Option, Some, None, codes}
 use Rattle.std.specs.Int.{w64, to_be_bytes}
 use Rattle.hex.specs.Hex.{encode_lower}
+use Rattle.serde_json.specs.Data.{Data, string, number, unsigned, object, Members, no_members, member}
+use Rattle.serde_json.specs.Written.{compact_text}
 use Rattle.mon_report.specs.declared.line.Line.{Line}
 use Rattle.mon_report.specs.declared.line.Line.TheVariants.{Armed, Closed, Confirmed, Fact, Watch}
 use Rattle.mon_report.specs.declared.line.What.{What}
@@ -11,25 +13,9 @@ use Rattle.mon_report.specs.declared.line.WatchWhat.TheVariants.{Seen, Missing, 
 use Rattle.mon_report.specs.declared.line.Cause.{Cause}
 use Rattle.mon_report.specs.declared.line.Cause.TheVariants.{Peer, BadLength, BadVersion, Lost, TooMany, Features, UnknownSwitch, SameSwitch, NotArmed}
 
--- a member: its name, and a text that needs no escape or a number
-pub data Member : Type 0 where
-  word : List ℕ → List ℕ → Member
-  number : List ℕ → ℕ → Member
-
--- a text between quotes, and what follows it
-abbrev pub quoted : List ℕ → List ℕ → List ℕ
-quoted text rest = codes "\"" ++ (text ++ (codes "\"" ++ rest))
-
--- a member, and what follows it
-abbrev pub spelled : Member → List ℕ → List ℕ
-spelled (word name text) rest = quoted name (codes ":" ++ quoted text rest)
-spelled (number name n) rest = quoted name (codes ":" ++ (decimal n ++ rest))
-
--- members with a comma between two, and the closing brace
-abbrev pub joined : List Member → List ℕ
-joined [] = codes "}"
-joined (m ∷ []) = spelled m (codes "}")
-joined (m ∷ n ∷ ms) = spelled m (codes "," ++ joined (n ∷ ms))
+-- a whole number as a value of JSON
+abbrev pub whole : ℕ → Data
+whole n = number (unsigned n)
 
 -- the word for a fact
 abbrev pub fact_word : What → List ℕ
@@ -59,41 +45,47 @@ cause_word UnknownSwitch = codes "unknown-switch"
 cause_word SameSwitch = codes "same-switch"
 cause_word NotArmed = codes "not-armed"
 
--- the serial of a probe that came back
-abbrev pub serial_member : Option ℕ → List Member
-serial_member None = []
-serial_member (Some serial) = number (codes "serial") serial ∷ []
+-- the serial of a probe that came back, and the members behind it
+abbrev pub with_serial : Option ℕ → Members → Members
+with_serial None rest = rest
+with_serial (Some serial) rest = member (codes "serial") (whole serial) rest
 
 -- the members of a line
-abbrev pub members : Line → List Member
+abbrev pub members : Line → Members
 members (Armed session datapath tag) =
-    word (codes "datapath") (encode_lower (to_be_bytes w64 datapath))
-    ∷ word (codes "event") (codes "armed")
-    ∷ number (codes "session") session
-    ∷ number (codes "tag") tag
-    ∷ []
+    member (codes "datapath") (string (encode_lower (to_be_bytes w64 datapath)))
+    (member (codes "event") (string (codes "armed"))
+    (member (codes "session") (whole session)
+    (member (codes "tag") (whole tag)
+    no_members)))
 members (Closed session cause) =
-    word (codes "cause") (cause_word cause)
-    ∷ word (codes "event") (codes "closed")
-    ∷ number (codes "session") session
-    ∷ []
+    member (codes "cause") (string (cause_word cause))
+    (member (codes "event") (string (codes "closed"))
+    (member (codes "session") (whole session)
+    no_members))
 members (Confirmed session edit serial) =
-    number (codes "edit") edit
-    ∷ word (codes "event") (codes "confirmed")
-    ∷ number (codes "serial") serial
-    ∷ number (codes "session") session
-    ∷ []
+    member (codes "edit") (whole edit)
+    (member (codes "event") (string (codes "confirmed"))
+    (member (codes "serial") (whole serial)
+    (member (codes "session") (whole session)
+    no_members)))
 members (Fact session edit what) =
-    number (codes "edit") edit
-    ∷ word (codes "event") (fact_word what)
-    ∷ number (codes "session") session
-    ∷ []
+    member (codes "edit") (whole edit)
+    (member (codes "event") (string (fact_word what))
+    (member (codes "session") (whole session)
+    no_members))
 members (Watch session matching priority serial what) =
-    word (codes "event") (watch_word what)
-    ∷ word (codes "match") (encode_lower matching)
-    ∷ number (codes "priority") priority
-    ∷ (serial_member serial ++ number (codes "session") session ∷ [])
+    member (codes "event") (string (watch_word what))
+    (member (codes "match") (string (encode_lower matching))
+    (member (codes "priority") (whole priority)
+    (with_serial serial
+    (member (codes "session") (whole session)
+    no_members))))
 
--- the text of a line: an object of its members
+-- a line as a value of JSON
+abbrev pub value_of : Line → Data
+value_of line = object (members line)
+
+-- the text of a line: that of its value, with no space
 abbrev pub text_of : Line → List ℕ
-text_of line = codes "{" ++ joined (members line)
+text_of line = compact_text (value_of line)

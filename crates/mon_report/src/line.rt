@@ -42,7 +42,8 @@ pub enum Line {
 pub enum What {
     /// It leaves the flow table as it was.
     NoChange,
-    /// Its rule overlaps one of the same rank that does something else, so no packet is sure to show it.
+    /// Another rule of its effective priority overlaps its match, whatever the two rules do, so lookups in the overlap are
+    /// unsure.
     Overlap,
     /// No packet tells whether it is there.
     Indistinguishable,

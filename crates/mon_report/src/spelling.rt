@@ -1,10 +1,13 @@
 //! The text of a line.
 
 ghost use Rattle.std.specs.Prelude.{◌≡◌, string_bytes, IfOk, Some, None};
-ghost use Rattle.mon_report.specs.Lines.{fact_word, watch_word, cause_word, text_of};
+ghost use Rattle.serde_json.specs.Read.{read};
+ghost use Rattle.serde_json.specs.View.{view};
+ghost use Rattle.mon_report.specs.Lines.{fact_word, watch_word, cause_word, value_of, text_of};
 
 use crate::line::{Cause, Line, WatchWhat, What};
 use mon_list::OutOfMemory;
+use serde_json::{Value, json};
 use std::alloc::Global;
 
 fn fact_word(what: What) -> &'static str
@@ -47,39 +50,37 @@ fn cause_word(cause: Cause) -> &'static str
     }
 }
 
-fn armed(alloc: Global, session: u64, datapath: u64, tag: u16) -> Result<String, OutOfMemory>
-    ensures { IfOk result (λ s. string_bytes s ≡ text_of (Line.Armed session datapath tag)) }
+fn armed(alloc: Global, session: u64, datapath: u64, tag: u16) -> Result<Value, OutOfMemory>
+    ensures { IfOk result (λ v. view v ≡ value_of (Line.Armed session datapath tag)) }
 {
     let digits = hex::encode(alloc, datapath.to_be_bytes())?;
-    let line = format!(in alloc;
-        r#"{{"datapath":"{digits}","event":"armed","session":{session},"tag":{tag}}}"#
-    )?;
-    Ok(line)
+    let value =
+        json!(in alloc; {"datapath": digits, "event": "armed", "session": session, "tag": tag})?;
+    Ok(value)
 }
 
-fn closed(alloc: Global, session: u64, cause: Cause) -> Result<String, OutOfMemory>
-    ensures { IfOk result (λ s. string_bytes s ≡ text_of (Line.Closed session cause)) }
+fn closed(alloc: Global, session: u64, cause: Cause) -> Result<Value, OutOfMemory>
+    ensures { IfOk result (λ v. view v ≡ value_of (Line.Closed session cause)) }
 {
     let cause = cause_word(cause);
-    let line = format!(in alloc; r#"{{"cause":"{cause}","event":"closed","session":{session}}}"#)?;
-    Ok(line)
+    let value = json!(in alloc; {"cause": cause, "event": "closed", "session": session})?;
+    Ok(value)
 }
 
-fn confirmed(alloc: Global, session: u64, edit: u64, serial: u64) -> Result<String, OutOfMemory>
-    ensures { IfOk result (λ s. string_bytes s ≡ text_of (Line.Confirmed session edit serial)) }
+fn confirmed(alloc: Global, session: u64, edit: u64, serial: u64) -> Result<Value, OutOfMemory>
+    ensures { IfOk result (λ v. view v ≡ value_of (Line.Confirmed session edit serial)) }
 {
-    let line = format!(in alloc;
-        r#"{{"edit":{edit},"event":"confirmed","serial":{serial},"session":{session}}}"#
-    )?;
-    Ok(line)
+    let value =
+        json!(in alloc; {"edit": edit, "event": "confirmed", "serial": serial, "session": session})?;
+    Ok(value)
 }
 
-fn fact(alloc: Global, session: u64, edit: u64, what: What) -> Result<String, OutOfMemory>
-    ensures { IfOk result (λ s. string_bytes s ≡ text_of (Line.Fact session edit what)) }
+fn fact(alloc: Global, session: u64, edit: u64, what: What) -> Result<Value, OutOfMemory>
+    ensures { IfOk result (λ v. view v ≡ value_of (Line.Fact session edit what)) }
 {
     let event = fact_word(what);
-    let line = format!(in alloc; r#"{{"edit":{edit},"event":"{event}","session":{session}}}"#)?;
-    Ok(line)
+    let value = json!(in alloc; {"edit": edit, "event": event, "session": session})?;
+    Ok(value)
 }
 
 fn seen(
@@ -89,15 +90,14 @@ fn seen(
     priority: u16,
     serial: u64,
     what: WatchWhat,
-) -> Result<String, OutOfMemory>
-    ensures { IfOk result (λ s. string_bytes s ≡ text_of (Line.Watch session matching.now priority (Some serial) what)) }
+) -> Result<Value, OutOfMemory>
+    ensures { IfOk result (λ v. view v ≡ value_of (Line.Watch session matching.now priority (Some serial) what)) }
 {
     let event = watch_word(what);
     let digits = hex::encode(alloc, *matching)?;
-    let line = format!(in alloc;
-        r#"{{"event":"{event}","match":"{digits}","priority":{priority},"serial":{serial},"session":{session}}}"#
-    )?;
-    Ok(line)
+    let value =
+        json!(in alloc; {"event": event, "match": digits, "priority": priority, "serial": serial, "session": session})?;
+    Ok(value)
 }
 
 fn unseen(
@@ -106,15 +106,14 @@ fn unseen(
     matching: &[u8; 40],
     priority: u16,
     what: WatchWhat,
-) -> Result<String, OutOfMemory>
-    ensures { IfOk result (λ s. string_bytes s ≡ text_of (Line.Watch session matching.now priority None what)) }
+) -> Result<Value, OutOfMemory>
+    ensures { IfOk result (λ v. view v ≡ value_of (Line.Watch session matching.now priority None what)) }
 {
     let event = watch_word(what);
     let digits = hex::encode(alloc, *matching)?;
-    let line = format!(in alloc;
-        r#"{{"event":"{event}","match":"{digits}","priority":{priority},"session":{session}}}"#
-    )?;
-    Ok(line)
+    let value =
+        json!(in alloc; {"event": event, "match": digits, "priority": priority, "session": session})?;
+    Ok(value)
 }
 
 fn watch(
@@ -124,8 +123,8 @@ fn watch(
     priority: u16,
     serial: Option<u64>,
     what: WatchWhat,
-) -> Result<String, OutOfMemory>
-    ensures { IfOk result (λ s. string_bytes s ≡ text_of (Line.Watch session matching.now priority serial what)) }
+) -> Result<Value, OutOfMemory>
+    ensures { IfOk result (λ v. view v ≡ value_of (Line.Watch session matching.now priority serial what)) }
 {
     match serial {
         Some(serial) => seen(alloc, session, matching, priority, serial, what),
@@ -133,9 +132,9 @@ fn watch(
     }
 }
 
-/// The line as JSON, without a line feed. A watch has the member `serial` where the line has a serial.
-pub fn text(alloc: Global, line: &Line) -> Result<String, OutOfMemory>
-    ensures { IfOk result (λ s. string_bytes s ≡ text_of line.now) }
+/// The line as a value of JSON.
+fn value(alloc: Global, line: &Line) -> Result<Value, OutOfMemory>
+    ensures { IfOk result (λ v. view v ≡ value_of line.now) }
 {
     match *line {
         Line::Armed {
@@ -162,4 +161,15 @@ pub fn text(alloc: Global, line: &Line) -> Result<String, OutOfMemory>
             what,
         } => watch(alloc, session, &matching, priority, serial, what),
     }
+}
+
+/// The line as JSON, without a line feed: read as JSON it is the line's value. A watch has the member `serial` where the
+/// line has a serial.
+pub fn text(alloc: Global, line: &Line) -> Result<String, OutOfMemory>
+    ensures text { IfOk result (λ s. string_bytes s ≡ text_of line.now) }
+    ensures json { IfOk result (λ s. read (string_bytes s) ≡ Some (value_of line.now)) }
+{
+    let value = value(alloc, line)?;
+    let text = value.to_string(alloc)?;
+    Ok(text)
 }
