@@ -12,7 +12,7 @@ pub enum Certificate {
     Probe(Header, Emission),
     /// No probe shows it: one refutation for each case in which one could, in the order of the cases.
     Nothing(Logs),
-    /// A rule of the same effective priority overlaps it, so no lookup is sure.
+    /// It is tied: another rule of its effective priority overlaps its match, so lookups in the overlap are unsure.
     Overlap,
 }
 
