@@ -67,99 +67,67 @@ fn wrong_with(alloc: Global, name: &str, value: &str) -> Result<PathBytes, OutOf
     wrong_path(alloc, text.as_bytes())
 }
 
+/// Whether the star with one member more has its first wrong member at this path, or none where the path is empty.
+fn judges(alloc: Global, name: &str, value: &str, path: &str) -> Result<bool, OutOfMemory> {
+    let found = wrong_with(alloc, name, value)?;
+    Ok(found.items() == path.as_bytes())
+}
+
 #[test]
 fn judges_numbers_and_names(rt: HostRuntime) -> Result<(), Fail> {
-    let alloc = rt.alloc();
     let cases = [
         ("alarm_ticks", "0", "alarm_ticks"),
-        ("alarm_ticks", "1", ""),
         ("alarm_ticks", "1000000", ""),
         ("alarm_ticks", "1000001", "alarm_ticks"),
         ("alarm_ticks", "3.0", "alarm_ticks"),
-        ("alarm_ticks", "3e0", "alarm_ticks"),
-        ("alarm_ticks", "\"3\"", "alarm_ticks"),
-        ("retry_ticks", "0", "retry_ticks"),
-        ("retry_ticks", "1", ""),
-        ("retry_ticks", "1000000", ""),
         ("retry_ticks", "1000001", "retry_ticks"),
         ("sessions", "4294967295", ""),
         ("sessions", "4294967296", "sessions"),
-        ("sessions", "-1", "sessions"),
-        ("tick_ms", "0", "tick_ms"),
-        ("tick_ms", "1", ""),
-        ("tick_ms", "60000", ""),
         ("tick_ms", "60001", "tick_ms"),
-        ("watch_ticks", "1000000", ""),
-        ("watch_ticks", "1000001", "watch_ticks"),
-        ("workers", "0", "workers"),
-        ("workers", "1", ""),
+        ("watch_ticks", "0", ""),
+        ("watch_ticks", "-0", "watch_ticks"),
+        ("watch_ticks", "18446744073709551616", "watch_ticks"),
+        ("watch_ticks", "1e400", "."),
         ("workers", "64", ""),
         ("workers", "65", "workers"),
-        ("worker", "0", "worker"),
         ("zone\":0,\"name\":0,\"zero", "0", "name"),
     ];
     for (name, value, path) in cases {
-        let found = wrong_with(alloc, name, value)?;
-        assert_eq!(rt; found.items(), path.as_bytes(), "{name}: {value}");
+        assert!(rt; judges(rt.alloc(), name, value, path)?, "{name}: {value}");
     }
     Ok(())
 }
 
 #[test]
 fn judges_addresses(rt: HostRuntime) -> Result<(), Fail> {
-    let alloc = rt.alloc();
     let cases = [
-        ("controller", "\"0.0.0.0:1\"", ""),
-        ("controller", "\"255.255.255.255:65535\"", ""),
-        ("controller", "\"127.0.0.1:0\"", "controller"),
-        ("controller", "\"127.0.0.1:65536\"", "controller"),
-        ("controller", "\"127.0.0.256:1\"", "controller"),
-        ("controller", "\"127.0.0.01:1\"", "controller"),
-        ("controller", "\"127.0.0.1:01\"", "controller"),
-        ("controller", "\"127.0.0:1\"", "controller"),
-        ("controller", "\"127.0.0.1.1:1\"", "controller"),
-        ("controller", "\"127.0..1:1\"", "controller"),
-        ("controller", "\"+127.0.0.1:1\"", "controller"),
-        ("controller", "\"127.0.0.1\"", "controller"),
-        ("controller", "\"127.0.0.1:1 \"", "controller"),
-        ("controller", "2130706433", "controller"),
-        ("listen", "\"127.0.0.1:0\"", "listen"),
+        ("\"255.255.255.255:65535\"", ""),
+        ("\"127.0.0.1:0\"", "controller"),
+        ("\"127.0.0.1:65536\"", "controller"),
+        ("\"127.0.0.256:1\"", "controller"),
+        ("\"127.0.0.01:1\"", "controller"),
+        ("\"127.0.0.1.1:1\"", "controller"),
+        ("\"127.0.0.1:1 \"", "controller"),
     ];
-    for (name, value, path) in cases {
-        let found = wrong_with(alloc, name, value)?;
-        assert_eq!(rt; found.items(), path.as_bytes(), "{name}: {value}");
+    for (value, path) in cases {
+        assert!(rt; judges(rt.alloc(), "controller", value, path)?, "{value}");
     }
     Ok(())
 }
 
 #[test]
 fn judges_lists(rt: HostRuntime) -> Result<(), Fail> {
-    let alloc = rt.alloc();
     let cases = [
         ("switches", "[]", "switches"),
-        ("switches", "\"0000000000000001\"", "switches"),
         ("switches", "[1]", "switches/0"),
-        ("switches", "[\"000000000000001\"]", "switches/0"),
-        ("switches", "[\"00000000000000001\"]", "switches/0"),
         ("switches", "[\"000000000000000A\"]", "switches/0"),
         (
             "switches",
             "[\"0000000000000001\",\"0000000000000001\"]",
             "switches/1",
         ),
-        (
-            "switches",
-            "[\"0000000000000001\",\"0000000000000002\"]",
-            "links/1",
-        ),
         ("links", "{}", "links"),
-        ("links", "[]", ""),
         ("links", "[[]]", "links/0"),
-        (
-            "links",
-            "[[\"0000000000000001\",0,\"0000000000000002\",1]]",
-            "links/0",
-        ),
         (
             "links",
             "[[\"0000000000000001\",1,\"0000000000000002\",65280]]",
@@ -175,51 +143,32 @@ fn judges_lists(rt: HostRuntime) -> Result<(), Fail> {
             "[[\"0000000000000001\",1,\"0000000000000004\",1],0]",
             "links/0",
         ),
-        (
-            "links",
-            "[[\"0000000000000001\",1,\"0000000000000001\",2]]",
-            "links/0",
-        ),
-        (
-            "links",
-            "[[\"0000000000000001\",1,\"0000000000000002\",1],[\"0000000000000003\",1,\"0000000000000001\",1]]",
-            "links/1",
-        ),
-        ("tags", "[]", "tags"),
         ("tags", "[100]", "tags"),
         ("tags", "[1,4094]", ""),
-        ("tags", "[0,1]", "tags/0"),
         ("tags", "[1,4095]", "tags/1"),
         ("tags", "[101,100]", "tags/1"),
     ];
     for (name, value, path) in cases {
-        let found = wrong_with(alloc, name, value)?;
-        assert_eq!(rt; found.items(), path.as_bytes(), "{name}: {value}");
+        assert!(rt; judges(rt.alloc(), name, value, path)?, "{name}: {value}");
     }
     Ok(())
 }
 
 #[test]
 fn names_the_first_wrong_member(rt: HostRuntime) -> Result<(), Fail> {
-    let alloc = rt.alloc();
     let cases = [
-        ("{}", "alarm_ticks"),
         ("{\"zone\":0}", "alarm_ticks"),
         (
             "{\"alarm_ticks\":1,\"controller\":0,\"listen\":0}",
             "controller",
         ),
-        ("", "."),
-        ("{", "."),
         ("{} {}", "."),
         ("[]", "."),
-        ("null", "."),
     ];
     for (text, path) in cases {
-        let found = wrong_path(alloc, text.as_bytes())?;
-        assert_eq!(rt; found.items(), path.as_bytes(), "{text}");
+        let found = wrong_path(rt.alloc(), text.as_bytes())?;
+        assert!(rt; found.items() == path.as_bytes(), "{text}");
     }
-    assert_eq!(rt; wrong_path(alloc, b"\xff")?.items(), b".".as_slice());
     Ok(())
 }
 
