@@ -1,3 +1,5 @@
 pub mod Counting
 pub mod Saying
-pub mod InRange
+pub mod Stepping
+pub mod Forming
+pub mod Whole

@@ -1,9 +1,9 @@
 //! The settings as a whole.
 
-ghost use Rattle.std.specs.Prelude.{◌≡◌, IfOk};
+ghost use Rattle.std.specs.Prelude.{◌≡◌, IfOk, IfErr};
 ghost use Rattle.serde_json.specs.View.{view};
 ghost use Rattle.mon_settings.specs.Judged.{members_of, of_value, settings_with, Says};
-ghost use Rattle.mon_settings.specs.Ranges.{InRange};
+ghost use Rattle.mon_settings.specs.Form.{IsSettingsText, IsRefused};
 ghost use Rattle.mon_settings.specs.Faults.{Gives};
 
 use crate::address::Address;
@@ -79,16 +79,25 @@ fn of_value(alloc: Global, value: &Value) -> Result<Settings, SettingsFault>
     }
 }
 
-/// Reads the settings from a text: a JSON object of exactly their members. A fault names the first that is wrong, in the
-/// order `alarm_ticks`, `controller`, `listen`, `retry_ticks`, `sessions`, `switches`, `links`, `tags`, `tick_ms`,
-/// `watch_ticks`, `workers`, and then the least unknown name.
-pub fn read_settings(alloc: Global, text: &[u8]) -> Result<Settings, SettingsFault>
-    ensures says { Says text.now result }
-    ensures in_range { IfOk result InRange }
+/// What a text says.
+fn of_text(alloc: Global, text: &[u8]) -> Result<Settings, SettingsFault>
+    ensures { Says text.now result }
 {
     match Value::from_slice(alloc, text) {
         Ok(value) => of_value(alloc, &value),
         Err(e) if e.is_memory() => Err(SettingsFault::OutOfMemory),
         Err(_) => Err(bad(alloc, ".")),
     }
+}
+
+/// Reads the settings from a text: a JSON object of exactly their members, each in its form. A text is accepted exactly
+/// where it is one, unless there is no memory. A fault names the first member that is wrong, in the order `alarm_ticks`,
+/// `controller`, `listen`, `retry_ticks`, `sessions`, `switches`, `links`, `tags`, `tick_ms`, `watch_ticks`, `workers`, and
+/// then the least unknown name.
+pub fn read_settings(alloc: Global, text: &[u8]) -> Result<Settings, SettingsFault>
+    ensures accepted { IfOk result (IsSettingsText text.now) }
+    ensures refused { IfErr result (IsRefused text.now) }
+    ensures says { Says text.now result }
+{
+    of_text(alloc, text)
 }

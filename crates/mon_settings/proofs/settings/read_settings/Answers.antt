@@ -1,11 +1,8 @@
-use Rattle.serde_json.specs.View.{view}
-use Rattle.mon_settings.proofs.Saying.{gives-says}
-use Rattle.mon_settings.proofs.InRange.{gives-in_range}
+use Rattle.mon_settings.proofs.Whole.{says-form, says-refused}
 use Rattle.mon_settings.proofs.settings.read_settings.Goals as goal
 
-pub returns-in-Ok-clause-says : goal.returns-in-Ok-clause-says
-returns-in-Ok-clause-says c =
-    gives-says c.args.text.now (view c.in-Ok.value) c.of_value.result c.in-Ok.ensures.ok.0 c.in-Ok.ensures.ok.1 c.of_value.ensures
+pub returns-clause-accepted : goal.returns-clause-accepted
+returns-clause-accepted c = says-form c.args.text.now c.of_text.result c.of_text.ensures
 
-pub returns-in-Ok-clause-in_range : goal.returns-in-Ok-clause-in_range
-returns-in-Ok-clause-in_range c = gives-in_range (view c.in-Ok.value) c.of_value.result c.of_value.ensures
+pub returns-clause-refused : goal.returns-clause-refused
+returns-clause-refused c = says-refused c.args.text.now c.of_text.result c.of_text.ensures
