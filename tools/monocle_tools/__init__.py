@@ -1,0 +1,1 @@
+"""What the tools beside monocle share: headers and matches, actions, files, messages, captures, and explanations."""
