@@ -1,0 +1,295 @@
+"""Why a rule is shown, tied or not shown, in words.
+
+A certificate says which of the three it is, and `monocle check` says whether the certificate holds. What stands here is an
+explanation: it is found by running some packets through the table, and it proves nothing.
+"""
+
+from __future__ import annotations
+
+from itertools import islice
+from typing import Iterator, List, NamedTuple, Optional, Tuple
+
+from .actions import IN_PORT, OUTPUT, Emission, Sent, may, must, run
+from .files import BadInput, Certificate, Link, Probe, Refuted, Rule, Table
+from .headers import (DROP_MARK, ICMP, IPV4, TCP, UDP, WHOLE, Header, Match, class_fault, ethernet, exactly, header_of,
+                      match_words, packet_words)  # fmt: skip
+
+SHOWN, TIED, NOT_SHOWN = "shown", "tied", "not shown"
+# how many packets are tried for a rule, and the Ethernet types and IP protocols that they have
+TRIALS = 24
+KINDS = ((IPV4, TCP), (IPV4, UDP), (IPV4, ICMP), (IPV4, 47), (0x88B5, 0))
+BY_LOOKING = "Found by looking at some packets, as an explanation and not as a proof:"
+
+
+class Explanation(NamedTuple):
+    """What is said of a rule, as sentences."""
+
+    state: str
+    sentences: Tuple[str, ...]
+
+
+def listed(words: List[str], most: int) -> str:
+    """Some words, and how many more there are."""
+    rest = len(words) - most
+    return "; ".join(words[:most]) + (f"; and {rest} more" if rest > 0 else "")
+
+
+class Explainer:
+    """Explains the rules of a table."""
+
+    def __init__(self, table: Table) -> None:
+        self.table, self.view, self.rules = table, table.view, table.rules
+        self.ports = [link.port for link in table.view.links]
+
+    def name(self, place: int) -> str:
+        return f"rule {place} ({self.rules[place].words()})"
+
+    # what a table does with a packet
+
+    def winners(self, header: Header, sure: Optional[int] = None, without: Optional[int] = None) -> Tuple[List[int], bool]:
+        """The rules that may take a packet, and whether none may. Unsure rules hide nothing, but for the one at `sure`."""
+        number, best, found = header.number(), -1, []
+        for place, rule in enumerate(self.rules):
+            if rule.rank < best:
+                break
+            if place != without and rule.match.takes(number):
+                found.append(place)
+                if not rule.unsure or place == sure:
+                    best = rule.rank
+        return found, best < 0
+
+    def uncraftable(self, h: Header) -> Optional[str]:
+        """Why a packet cannot be a probe, or None where it can."""
+        if h.in_port not in self.ports:
+            return f"no monitored switch is linked at port {h.in_port}, so no probe comes in there"
+        if h.dl_vlan != self.view.tag:
+            return f"probes to this switch have the VLAN id {self.view.tag}"
+        if h.dl_src >> 40 & 1:
+            return "the source address of a probe is never that of a group"
+        if h.dl_dst == DROP_MARK or 0x0180C2000000 <= h.dl_dst <= 0x0180C200000F:
+            return f"the destination address {ethernet(h.dl_dst)} is reserved"
+        return class_fault(h)
+
+    def uncaught(self, sent: Sent) -> Optional[str]:
+        """Why nobody sees what is sent, or None where somebody does."""
+        emission, whole = sent
+        if emission.door == "controller":
+            return None if whole else "it sends fewer than 128 bytes to the controller, which need not hold a whole probe"
+        if emission.door == "miss":
+            return None if self.view.miss >= 128 else "the controller gets too little of a missed packet"
+        link = self.view.link(emission.port)
+        if link is None:
+            return f"it sends by port {emission.port}, where no monitored switch is linked"
+        vlan = emission.header.dl_vlan
+        if vlan not in self.view.tags or vlan == link.tag:
+            said = "without a VLAN tag" if vlan == 0xFFFF else f"with the VLAN id {vlan}"
+            return f"it sends by port {emission.port} {said}, which switch {link.switch:016x} does not catch"
+        return None
+
+    def separates(self, place: int, header: Header, emission: Emission) -> bool:
+        """Seeing this of this packet tells the table from the one without the rule."""
+        whole = Sent(emission, True)
+        if self.uncraftable(header) or self.uncaught(whole):
+            return False
+        taking, missed = self.winners(header, sure=place)
+        if len(taking) != 1 or missed or not must(self.rules[taking[0]].actions, header, emission):
+            if taking or emission != Emission("miss", 0, header):
+                return False
+        other, other_missed = self.winners(header, without=place)
+        if any(may(self.rules[one].actions, header, emission) for one in other):
+            return False
+        return not (other_missed and emission == Emission("miss", 0, header))
+
+    # in words
+
+    def door(self, sent: Sent, header: Header) -> str:
+        """Where an emission goes, and how the packet was changed."""
+        emission = sent.emission
+        changes = [name for name in Header._fields if getattr(emission.header, name) != getattr(header, name)]
+        said = f", with {', '.join(f'{name}={self.value(name, emission.header)}' for name in changes)}" if changes else ""
+        if emission.door == "controller":
+            return "to the controller" + said
+        link = self.view.link(emission.port)
+        return f"by port {emission.port}{self.far(link)}{said}"
+
+    @staticmethod
+    def value(name: str, header: Header) -> str:
+        """One field of a header in words."""
+        words = match_words(Match(header.number(), WHOLE))
+        found = [word for word in words.split(",") if word.startswith(f"{name}=")]
+        return found[0].partition("=")[2] if found else str(getattr(header, name))
+
+    @staticmethod
+    def far(link: Optional[Link]) -> str:
+        return f" (port {link.far_port} of switch {link.switch:016x})" if link else ""
+
+    def doings(self, places: List[int], header: Header) -> str:
+        """What these rules do with a packet."""
+        said = []
+        for place in places:
+            sent, unknown = run(self.rules[place].actions, header)
+            doors = " and ".join(self.door(one, header) for one in sent)
+            if unknown:
+                said.append(f"{self.name(place)}, of which the switch decides what it sends")
+            elif doors:
+                said.append(f"{self.name(place)} takes it and sends it {doors}")
+            else:
+                said.append(f"{self.name(place)} takes it and sends it nowhere")
+        return listed(said, 3) if said else "no rule takes it, so it is a miss"
+
+    # the three kinds
+
+    def explain(self, place: int, certificate: Certificate) -> Explanation:
+        if isinstance(certificate, Probe):
+            return Explanation(SHOWN, tuple(self.why_shown(place, certificate)))
+        if isinstance(certificate, Refuted):
+            return Explanation(NOT_SHOWN, tuple(self.why_not(place)))
+        return Explanation(TIED, tuple(self.why_tied(place)))
+
+    def why_shown(self, place: int, probe: Probe) -> Iterator[str]:
+        header, emission = probe
+        link = self.view.link(header.in_port)
+        yield f"Its probe comes in by port {header.in_port}{self.far(link)}: {packet_words(header)}"
+        yield f"The rule sends it {self.door(Sent(emission, True), header)}, where it is seen."
+        yield f"Without the rule: {self.doings(self.winners(header, without=place)[0], header)}."
+        if not self.separates(place, header, emission):
+            yield "But read again, this packet does not show the rule: let `monocle check` judge the certificate."
+
+    def why_tied(self, place: int) -> Iterator[str]:
+        rule = self.rules[place]
+        ties = [other for other, one in enumerate(self.rules)
+                if other != place and one.rank == rule.rank and one.match.overlaps(rule.match)]  # fmt: skip
+        if not ties:
+            yield "But no rule of the same rank overlaps it: let `monocle check` judge the certificate."
+            return
+        both = Match(rule.match.value | self.rules[ties[0]].match.value, rule.match.mask | self.rules[ties[0]].match.mask)
+        yield f"Of one rank with it, and overlapping it: {listed([self.name(other) for other in ties], 3)}."
+        yield f"A packet such as {match_words(both) or 'any'} is taken by both, and the switch may choose."
+
+    def why_not(self, place: int) -> Iterator[str]:
+        yield "No packet shows it: the certificate refutes each case."
+        reason = self.plain_reason(self.rules[place])
+        if reason:
+            yield f"{BY_LOOKING} {reason}."
+            return
+        yield f"{BY_LOOKING} {self.looked(place)}."
+
+    def plain_reason(self, rule: Rule) -> Optional[str]:
+        """Why no packet can show a rule, where the rule itself says it."""
+        in_port, vlan = rule.match.field("in_port"), rule.match.field("dl_vlan")
+        if not self.ports:
+            return "no monitored switch is linked to this one, so no probe comes in"
+        if not rule.actions:
+            return "it drops what it takes, and what is dropped is not seen"
+        for action in rule.actions:
+            if action.unknown:
+                return f"its action {action.words()} leaves to the switch what is sent, so nothing is sure to be seen"
+        if not any(action.kind in (OUTPUT, 11) for action in rule.actions):
+            return "it changes what it takes and sends it nowhere"
+        if in_port is not None and in_port not in self.ports:
+            return f"it takes what comes in by port {in_port}, where no monitored switch is linked"
+        if vlan is not None and vlan != self.view.tag:
+            said = "untagged packets" if vlan == 0xFFFF else f"packets of VLAN {vlan}"
+            return f"it takes {said} alone, and probes to this switch have the VLAN id {self.view.tag}"
+        return None
+
+    # packets on trial
+
+    def trials(self, place: int, below: List[int]) -> Iterator[Header]:
+        """Packets that a rule takes and that can be probes, some of them such as the rules below take."""
+        match = self.rules[place].match
+        donors = [Match(0, 0)] + [self.rules[one].match for one in below[:16]]
+        fills = (0, WHOLE, int("5a" * 33, 16))
+        for fill in fills:
+            for donor in donors:
+                for kind, protocol in KINDS:
+                    for port in self.ports:
+                        fixed = Match(match.value | donor.value & ~match.mask, match.mask | donor.mask)
+                        header = self.mended(fixed, match, fill, port, kind, protocol)
+                        if match.takes(header.number()) and not self.uncraftable(header):
+                            yield header
+
+    def mended(self, fixed: Match, match: Match, fill: int, port: int, kind: int, protocol: int) -> Header:
+        """A header with the bits that are fixed, the others filled up so that it can be a probe where that is possible."""
+        h = header_of(fixed.value | fill & ~fixed.mask)
+        free = {name: not match.compared(name) for name in Header._fields}
+        if free["in_port"]:
+            h = h._replace(in_port=port)
+        if free["dl_vlan"]:
+            h = h._replace(dl_vlan=self.view.tag)
+        if free["dl_src"]:
+            h = h._replace(dl_src=h.dl_src & ~(1 << 40) | 2 << 40)
+        if not fixed.compared("dl_type"):
+            h = h._replace(dl_type=kind)
+        if not fixed.compared("nw_proto"):
+            h = h._replace(nw_proto=protocol)
+        if free["dl_vlan_pcp"]:
+            h = h._replace(dl_vlan_pcp=h.dl_vlan_pcp & 7)
+        absent = {name: 0 for name in Header._fields[6:] if free[name]}
+        if h.dl_type != IPV4:
+            return h._replace(**absent)
+        h = h._replace(nw_tos=h.nw_tos & 0xFC)
+        if h.nw_proto in (TCP, UDP):
+            return h
+        kept = 0xFF if h.nw_proto == ICMP else 0
+        return h._replace(**{name: getattr(h, name) & kept for name in ("tp_src", "tp_dst") if free[name]})
+
+    def looked(self, place: int) -> str:
+        """What keeps a rule from being seen, by trying packets."""
+        rule = self.rules[place]
+        overlapping = [one for one, other in enumerate(self.rules) if one != place and other.match.overlaps(rule.match)]
+        above = [one for one in overlapping if self.rules[one].rank > rule.rank]
+        wider = [one for one in above if self.rules[one].match.covers(rule.match) and not self.rules[one].unsure]
+        if wider:
+            return f"{self.name(wider[0])} stands above it and takes all that it would take"
+        below = [one for one in overlapping if self.rules[one].rank < rule.rank]
+        found: "dict[str, None]" = {}
+        hidden: "dict[int, None]" = {}
+        tried = 0
+        for header in islice(self.trials(place, below), TRIALS):
+            tried += 1
+            taking, _ = self.winners(header, sure=place)
+            if taking != [place]:
+                hidden.update((one, None) for one in taking if one != place)
+                continue
+            found.update((reason, None) for reason in self.unseen(place, header))
+        if not tried:
+            return self.no_trial(rule)
+        said = [f"rules above take its packets, such as {listed([self.name(one) for one in hidden], 2)}"] if hidden else []
+        return listed(list(found) + said, 3)
+
+    def unseen(self, place: int, header: Header) -> Iterator[str]:
+        """Why this packet, which the rule takes, doesn't show it."""
+        sent, _ = run(self.rules[place].actions, header)
+        if not sent:
+            yield f"it sends back by port {header.in_port} alone, where the packet came in, and so nowhere"
+        for one in sent:
+            why = self.uncaught(one)
+            if why:
+                yield why
+                continue
+            others, _ = self.winners(header, without=place)
+            same = [other for other in others if may(self.rules[other].actions, header, one.emission)]
+            if not same:
+                yield f"but read again, {packet_words(header)} would show it: let `monocle check` judge the certificate"
+                continue
+            unknown = run(self.rules[same[0]].actions, header)[1]
+            did = "may do the same, since the switch decides what it sends" if unknown else "does the same"
+            yield f"{self.name(same[0])} stands below it and {did}"
+
+    def no_trial(self, rule: Rule) -> str:
+        """Why no probe has a header that the rule takes."""
+        for kind, protocol in KINDS:
+            header = self.mended(rule.match, rule.match, 0, self.ports[0], kind, protocol)
+            why = self.uncraftable(header) if rule.match.takes(header.number()) else None
+            if why:
+                return f"no probe can be a packet that it takes: {why}"
+        return "no packet that was tried is taken by it"
+
+
+def explain_table(table: Table, certificates: Tuple[Certificate, ...], name: str) -> List[Explanation]:
+    """An explanation for each rule, in table order."""
+    if len(table.rules) != len(certificates):
+        raise BadInput(name, f"has {len(certificates)} certificates for a table of {len(table.rules)} rules")
+    explainer = Explainer(table)
+    return [explainer.explain(place, certificate) for place, certificate in enumerate(certificates)]
