@@ -214,6 +214,9 @@ def field_word(match: Match, name: str) -> str:
 def match_words(match: Match) -> str:
     """A match in the words of ovs-ofctl, such as `tcp,nw_dst=10.0.0.0/24,tp_dst=80`; empty where it takes all."""
     words, said = shorthand(match)
+    if match.field("dl_vlan") == NO_VLAN and match.field("dl_vlan_pcp") == 0:
+        # Open vSwitch takes `dl_vlan_pcp` to ask for a tag, and says so that there is none
+        words, said = words + ["vlan_tci=0x0000"], said | {"dl_vlan", "dl_vlan_pcp"}
     order = ("in_port", "dl_vlan", "dl_vlan_pcp", "dl_src", "dl_dst", "dl_type", "nw_src", "nw_dst", "nw_proto",
              "nw_tos", "tp_src", "tp_dst")  # fmt: skip
     words += [field_word(match, name) for name in order if name not in said and match.compared(name)]
