@@ -267,7 +267,7 @@ class Story:
         if isinstance(event, End):
             return f"session {event.session} ends"
         if isinstance(event, Offer):
-            return f"session {event.session}: {self.job_name(event.job)}, is offered"
+            return f"{self.job_name(event.job)}, is offered"
         if isinstance(event, Sending):
             return f"probe {event.serial} is made for {self.job_name(event.job)}"
         if isinstance(event, Verdict):
