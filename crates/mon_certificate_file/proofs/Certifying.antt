@@ -6,8 +6,8 @@ use Rattle.std.proofs.lemmas.List.{append-nil}
 use Rattle.std.proofs.lemmas.Bool.{eqb-true}
 use Rattle.std.proofs.lemmas.Option.{none-some, some_pair_parts}
 use Rattle.mon_text.specs.Parts.{behind, feed}
-use Rattle.mon_text.specs.declared.fault.FileFault.{FileFault}
-use Rattle.mon_text.specs.declared.fault.FileFault.TheVariants as fault
+use Rattle.mon_text.specs.declared.fault.TextFault.{TextFault}
+use Rattle.mon_text.specs.Reads.{ReadsPart}
 use Rattle.mon_text.proofs.Joining.{behind-found, behind-again}
 use Rattle.mon_header.specs.declared.header.Header.{Header}
 use Rattle.mon_outcome.specs.declared.emission.Emission.{Emission}
@@ -16,8 +16,8 @@ use Rattle.mon_refute.specs.Text.{log_text, FitsLog}
 use Rattle.mon_refute.specs.Reading.{LogAt}
 use Rattle.mon_certificate.specs.declared.certificate.Certificate.{Certificate}
 use Rattle.mon_certificate.specs.declared.certificate.Certificate.TheVariants.{Probe, Nothing, Overlap}
-use Rattle.mon_certificate_file.specs.CertificateFile.{logs_text, probe_text, nothing_text, certificate_text, row, certificates_text, FitsLogs, FitsCertificate, Spells, Reads}
-use Rattle.mon_certificate_file.specs.Reading.{behind_rule, probe_in, overlap_in, count_in, head_in, PartAt, RowAt, ReadsPart}
+use Rattle.mon_certificate_file.specs.CertificateFile.{logs_text, probe_text, nothing_text, certificate_text, row, certificates_text, FitsLogs, FitsCertificate, Spells}
+use Rattle.mon_certificate_file.specs.Reading.{behind_rule, probe_in, overlap_in, count_in, head_in, PartAt, RowAt}
 use Rattle.mon_certificate_file.proofs.LineReaders.{rule-found, rule-again, overlap-found, overlap-again, reader_probe, reader_count, head_words, reader_head}
 use Rattle.mon_certificate_file.proofs.Rows.{flat_is_row}
 
@@ -147,10 +147,9 @@ refuted_same rule bytes after logs read c rest b once a =
     let s = once p.logs rest p.part in
     (ap Nothing s.0 ∙ p.is, s.1)
 
-pub refuted_bad : (f : FileFault) (rule : ℕ) (bytes after : List ℕ) (c : Certificate) (rest : List ℕ) → behind (codes "none ") bytes ≡ Some after
+pub refuted_bad : (f : TextFault) (rule : ℕ) (bytes after : List ℕ) (c : Certificate) (rest : List ℕ) → behind (codes "none ") bytes ≡ Some after
     → ((ls : List (List LogLine)) (r : List ℕ) → PartAt (nothing_text rule) FitsLogs after ls r → ReadsPart {X = List (List LogLine)} (Err f) ls r) → CertificateAt rule bytes c rest → ReadsPart {X = Certificate} (Err f) c rest
-refuted_bad fault.Bad rule bytes after c rest b none a = let p = refuted_only rule bytes after c rest b a in none p.logs rest p.part
-refuted_bad fault.OutOfMemory rule bytes after c rest b none a = tt
+refuted_bad f rule bytes after c rest b none a = let p = refuted_only rule bytes after c rest b a in none p.logs rest p.part
 
 -- the line of a tied rule
 pub overlap_found : (rule : ℕ) (bytes after rest : List ℕ) → behind (codes "overlap ") bytes ≡ Some after → overlap_in rule after ≡ Some rest → CertificateAt rule bytes Overlap rest
@@ -210,10 +209,6 @@ file_row text after count cs e s =
 
 pub file_none : (text : List ℕ) (cs : List Certificate) → head_in text ≡ None → Spells text cs → ⊥
 file_none text cs e s = none-some (length cs, row certificate_text 0 cs) (sym e ∙ file_head text cs s)
-
-pub bad_file : (f : FileFault) (cs : List Certificate) (rest : List ℕ) → ReadsPart {X = List Certificate} (Err f) cs rest → Reads (Err f) cs
-bad_file fault.Bad cs rest r = r
-bad_file fault.OutOfMemory cs rest r = tt
 
 pub none_left : (rest : List ℕ) → (length rest == 0) ≡ true → rest ≡ []
 none_left [] e = refl

@@ -1,10 +1,8 @@
 -- A certificate file: what is said of each rule of a table, in table order. Words are parted by one space, and a line feed
 -- ends each line.
-use Rattle.std.specs.Prelude.{◌≡◌, ℕ, suc, ◌<◌, ◌^◌, List, [], ◌∷◌, ◌++◌, length, codes, decimal, Result, Ok, Err}
+use Rattle.std.specs.Prelude.{◌≡◌, ℕ, suc, ◌<◌, ◌^◌, List, [], ◌∷◌, ◌++◌, length, codes, decimal}
 use Rattle.std.specs.List.{flat_map, AllByRecursion}
 use Rattle.mon_text.specs.Hex.{hex}
-use Rattle.mon_text.specs.declared.fault.FileFault.{FileFault}
-use Rattle.mon_text.specs.declared.fault.FileFault.TheVariants as fault
 use Rattle.mon_header.specs.declared.header.Header.{Header}
 use Rattle.mon_header.specs.Matching.{InRange}
 use Rattle.mon_outcome.specs.declared.emission.Emission.{Emission}
@@ -86,9 +84,3 @@ FitsCertificates cs = (length cs < 2 ^ 64) × AllByRecursion FitsCertificate cs
 pub record Spells (text : List ℕ) (cs : List Certificate) : Type 0 where
   pub is : text ≡ certificates_text cs
   pub fit : FitsCertificates cs
-
--- the certificates that were read, if memory sufficed
-abbrev pub Reads : Result (List Certificate) FileFault → List Certificate → Type 0
-Reads (Ok read) cs = read ≡ cs
-Reads (Err fault.Bad) cs = ⊥
-Reads (Err fault.OutOfMemory) cs = Unit {0}

@@ -1,11 +1,8 @@
 -- How the lines of a certificate file are read, part by part.
-use Rattle.std.specs.Prelude.{◌≡◌, ℕ, List, ◌++◌, length, codes, decimal, Option, Some, None, option_and_then, Result, Ok, Err}
-use Rattle.std.specs.Borrow.{Bor}
+use Rattle.std.specs.Prelude.{◌≡◌, ℕ, List, ◌++◌, length, codes, decimal, Option, Some, None, option_and_then}
 use Rattle.std.specs.List.{AllByRecursion}
 use Rattle.mon_text.specs.Numbers.{number_in}
 use Rattle.mon_text.specs.Parts.{Part, behind, led, ended, both, seen, bytes_in, number_within, feed}
-use Rattle.mon_text.specs.declared.fault.FileFault.{FileFault}
-use Rattle.mon_text.specs.declared.fault.FileFault.TheVariants as fault
 use Rattle.mon_header.specs.declared.header.Header.{Header}
 use Rattle.mon_outcome.specs.declared.emission.Emission.{Emission}
 use Rattle.mon_outcome.specs.declared.emission.Emission.TheVariants.{Port, Controller, Miss}
@@ -71,9 +68,3 @@ pub record RowAt {X : Type 0} (text : ℕ → X → List ℕ) (Fits : X → Type
   pub is : bytes ≡ row text place xs ++ rest
   pub count_is : length xs ≡ count
   pub fit : AllByRecursion Fits xs
-
--- what was read, and the text behind it, if memory sufficed
-abbrev pub ReadsPart : {X : Type 0} → Result (X × Bor (List ℕ)) FileFault → X → List ℕ → Type 0
-ReadsPart (Ok p) x rest = (p.0 ≡ x) × (p.1.now ≡ rest)
-ReadsPart (Err fault.Bad) x rest = ⊥
-ReadsPart (Err fault.OutOfMemory) x rest = Unit {0}

@@ -17,7 +17,7 @@ mod writing;
 pub use laws::{bytes_have_the_bits, spelling_is_of_one};
 pub use mon_certificate::{Certificate, Certificates};
 pub use mon_list::OutOfMemory;
-pub use mon_text::FileFault;
+pub use mon_text::TextFault;
 pub use reading::read_certificates;
 pub use writing::write_certificates;
 

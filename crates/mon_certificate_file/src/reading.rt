@@ -4,29 +4,26 @@ ghost use Rattle.std.specs.Prelude.{◌≡◌, ℕ, List, IfOk};
 ghost use Rattle.mon_refute.specs.declared.lines.LogLine.{LogLine};
 ghost use Rattle.mon_refute.specs.Text.{log_text, FitsLog};
 ghost use Rattle.mon_certificate.specs.declared.certificate.Certificate.{Certificate};
-ghost use Rattle.mon_certificate_file.specs.CertificateFile.{logs_text, nothing_text, certificate_text, FitsLogs, FitsCertificate, Spells, Reads};
-ghost use Rattle.mon_certificate_file.specs.Reading.{PartAt, RowAt, ReadsPart};
+ghost use Rattle.mon_certificate_file.specs.CertificateFile.{logs_text, nothing_text, certificate_text, FitsLogs, FitsCertificate, Spells};
+ghost use Rattle.mon_text.specs.Reads.{ReadsAs, ReadsPart};
+ghost use Rattle.mon_certificate_file.specs.Reading.{PartAt, RowAt};
 
 use crate::lines::{behind_rule, count_at, head_at, overlap_at, probe_at};
 use mon_certificate::{Certificate, Certificates};
-use mon_refute::{Log, LogFault, Logs, log_at};
-use mon_text::{FileFault, behind};
+use mon_refute::{Log, Logs, log_at};
+use mon_text::{TextFault, behind};
 use std::alloc::Global;
 
 /// The refutation at the front, and the text behind it.
-fn one_log(alloc: Global, text: &[u8]) -> Result<(Log, &[u8]), FileFault>
+fn one_log(alloc: Global, text: &[u8]) -> Result<(Log, &[u8]), TextFault>
     ensures found { IfOk result (λ p. PartAt log_text FitsLog text.now p.0 p.1.now) }
     ensures only { (log : List LogLine) (rest : List ℕ) → PartAt log_text FitsLog text.now log rest → ReadsPart result log rest }
 {
-    match log_at(alloc, text) {
-        Ok((log, rest)) => Ok((log, rest)),
-        Err(LogFault::BadLog) => Err(FileFault::Bad),
-        Err(LogFault::OutOfMemory) => Err(FileFault::OutOfMemory),
-    }
+    log_at(alloc, text)
 }
 
 /// So many refutations at the front, and the text behind them.
-fn logs_at(alloc: Global, count: u64, text: &[u8]) -> Result<(Logs, &[u8]), FileFault>
+fn logs_at(alloc: Global, count: u64, text: &[u8]) -> Result<(Logs, &[u8]), TextFault>
     ensures found { IfOk result (λ p. RowAt (λ _. log_text) FitsLog 0 count text.now p.0 p.1.now) }
     ensures only { (logs : List (List LogLine)) (rest : List ℕ) → RowAt (λ _. log_text) FitsLog 0 count text.now logs rest → ReadsPart result logs rest }
 {
@@ -41,36 +38,36 @@ fn logs_at(alloc: Global, count: u64, text: &[u8]) -> Result<(Logs, &[u8]), File
 }
 
 /// How many refutations there are and each of them, and the text behind them.
-fn counted_logs_at(alloc: Global, text: &[u8]) -> Result<(Logs, &[u8]), FileFault>
+fn counted_logs_at(alloc: Global, text: &[u8]) -> Result<(Logs, &[u8]), TextFault>
     ensures found { IfOk result (λ p. PartAt logs_text FitsLogs text.now p.0 p.1.now) }
     ensures only { (logs : List (List LogLine)) (rest : List ℕ) → PartAt logs_text FitsLogs text.now logs rest → ReadsPart result logs rest }
 {
     let Some((count, rest)) = count_at(text) else {
-        return Err(FileFault::Bad);
+        return Err(TextFault::Bad);
     };
     logs_at(alloc, count, rest)
 }
 
 /// The refutations of a rule behind the first word, and the text behind them.
-fn nothing_at(alloc: Global, rule: u64, text: &[u8]) -> Result<(Logs, &[u8]), FileFault>
+fn nothing_at(alloc: Global, rule: u64, text: &[u8]) -> Result<(Logs, &[u8]), TextFault>
     ensures found { IfOk result (λ p. PartAt (nothing_text rule) FitsLogs text.now p.0 p.1.now) }
     ensures only { (logs : List (List LogLine)) (rest : List ℕ) → PartAt (nothing_text rule) FitsLogs text.now logs rest → ReadsPart result logs rest }
 {
     match behind_rule(rule, text) {
         Some(rest) => counted_logs_at(alloc, rest),
-        None => Err(FileFault::Bad),
+        None => Err(TextFault::Bad),
     }
 }
 
 /// What is said of a rule at the front, and the text behind it.
-fn certificate_at(alloc: Global, rule: u64, text: &[u8]) -> Result<(Certificate, &[u8]), FileFault>
+fn certificate_at(alloc: Global, rule: u64, text: &[u8]) -> Result<(Certificate, &[u8]), TextFault>
     ensures found { IfOk result (λ p. PartAt (certificate_text rule) FitsCertificate text.now p.0 p.1.now) }
     ensures only { (c : Certificate) (rest : List ℕ) → PartAt (certificate_text rule) FitsCertificate text.now c rest → ReadsPart result c rest }
 {
     if let Some(rest) = behind(b"probe ", text) {
         return match probe_at(rule, rest) {
             Some(((h, e), rest)) => Ok((Certificate::Probe(h, e), rest)),
-            None => Err(FileFault::Bad),
+            None => Err(TextFault::Bad),
         };
     }
     if let Some(rest) = behind(b"none ", text) {
@@ -78,11 +75,11 @@ fn certificate_at(alloc: Global, rule: u64, text: &[u8]) -> Result<(Certificate,
         return Ok((Certificate::Nothing(logs), rest));
     }
     let Some(rest) = behind(b"overlap ", text) else {
-        return Err(FileFault::Bad);
+        return Err(TextFault::Bad);
     };
     match overlap_at(rule, rest) {
         Some(rest) => Ok((Certificate::Overlap, rest)),
-        None => Err(FileFault::Bad),
+        None => Err(TextFault::Bad),
     }
 }
 
@@ -91,7 +88,7 @@ fn certificates_at(
     alloc: Global,
     count: u64,
     text: &[u8],
-) -> Result<(Certificates, &[u8]), FileFault>
+) -> Result<(Certificates, &[u8]), TextFault>
     ensures found { IfOk result (λ p. RowAt certificate_text FitsCertificate 0 count text.now p.0 p.1.now) }
     ensures only { (cs : List Certificate) (rest : List ℕ) → RowAt certificate_text FitsCertificate 0 count text.now cs rest → ReadsPart result cs rest }
 {
@@ -117,18 +114,18 @@ fn certificates_at(
 /// A HEADER is the 264 bits of a header in 66 lower hexadecimal digits. Numbers are decimal without leading zeros; P is 0
 /// to 65535, and the others are below 2^64. One space parts two words, and a line feed ends each line. A text in any other
 /// form is `Bad`.
-pub fn read_certificates(alloc: Global, text: &[u8]) -> Result<Certificates, FileFault>
+pub fn read_certificates(alloc: Global, text: &[u8]) -> Result<Certificates, TextFault>
     // What is read is spelled so.
     ensures found { IfOk result (Spells text.now) }
     // The text of certificates is read as these, unless memory runs out. So a text is bad only where it is of none.
-    ensures only { (cs : List Certificate) → Spells text.now cs → Reads result cs }
+    ensures only { (cs : List Certificate) → Spells text.now cs → ReadsAs (λ read. read ≡ cs) result }
 {
     let Some((count, rest)) = head_at(text) else {
-        return Err(FileFault::Bad);
+        return Err(TextFault::Bad);
     };
     let (certificates, rest) = certificates_at(alloc, count, rest)?;
     if !rest.is_empty() {
-        return Err(FileFault::Bad);
+        return Err(TextFault::Bad);
     }
     Ok(certificates)
 }

@@ -72,7 +72,7 @@ fn is_tied(c: &Certificate) -> bool {
 
 fn is_bad(alloc: Global, text: &[u8]) -> bool {
     match read_certificates(alloc, text) {
-        Err(FileFault::Bad) => true,
+        Err(TextFault::Bad) => true,
         _ => false,
     }
 }

@@ -25,6 +25,6 @@ pub use mon_certificate::{Certificate, Certificates};
 pub use mon_certificate_file::{read_certificates, write_certificates};
 pub use mon_list::OutOfMemory;
 pub use mon_table_file::{generate, read_table};
-pub use mon_text::FileFault;
+pub use mon_text::TextFault as FileFault;
 pub use plan::plan_table;
 pub use summary::Summary;

@@ -4,11 +4,12 @@ use Rattle.std.specs.List.{flat_map, AllByRecursion}
 use Rattle.std.proofs.lemmas.List.{append-nil}
 use Rattle.mon_cnf.specs.declared.clause.Lit.{Lit}
 use Rattle.mon_refute.specs.declared.lines.LogLine.{LogLine}
-use Rattle.mon_refute.specs.declared.read.LogFault.{LogFault}
-use Rattle.mon_refute.specs.declared.read.LogFault.TheVariants.{BadLog, OutOfMemory}
+use Rattle.mon_text.specs.declared.fault.TextFault.{TextFault}
+use Rattle.mon_text.specs.declared.fault.TextFault.TheVariants.{Bad, OutOfMemory}
+use Rattle.mon_text.specs.Reads.{OnBad, ReadsPart}
 use Rattle.mon_refute.specs.Text.{literals_text, hints_text, line_text, log_text, FitsLiteral, FitsHint, FitsLiterals, FitsHints, FitsLine, Spells}
 use Rattle.mon_text.specs.Numbers.{NoDigit, NoneAt, FoundAt, FitsNumber}
-use Rattle.mon_refute.specs.Reading.{literal_word, hint_word, OnBad, LineAt, NoLineAt, LinesAt, NoLinesAt, CountAt, NoCountAt, Reads, LogAt, ReadsAt}
+use Rattle.mon_refute.specs.Reading.{literal_word, hint_word, LineAt, NoLineAt, LinesAt, NoLinesAt, CountAt, NoCountAt, LogAt}
 use Rattle.mon_text.proofs.Spelling.{decimal_once}
 use Rattle.mon_refute.proofs.WordKinds.{literal_fits, literal_same, hint_fits, hint_same}
 use Rattle.mon_refute.proofs.Items.{list_once, next}
@@ -34,8 +35,8 @@ hints_once c d r s f g a b e = list_once ℕ hint_word FitsHint hint_fits hint_s
 behind_first : (bytes r1 rest : List ℕ) (l : LogLine) → bytes ≡ 108 ∷ r1 → LineAt bytes l rest → r1 ≡ literals_text l.literals ++ (hints_text l.hints ++ (10 ∷ rest))
 behind_first bytes r1 rest l e h = tails 108 108 _ _ (sym e ∙ h.is ∙ line_is l rest)
 
-pub no_literals : (bytes r1 : List ℕ) (f : LogFault) → bytes ≡ 108 ∷ r1 → OnBad f (NoneAt literals_text FitsLiterals r1) → OnBad f (NoLineAt bytes)
-no_literals bytes r1 BadLog e n = λ l rest h. n l.literals (hints_text l.hints ++ (10 ∷ rest)) (h.fits.0, record { is = behind_first bytes r1 rest l e h; ends = hints_next l.hints (10 ∷ rest) })
+pub no_literals : (bytes r1 : List ℕ) (f : TextFault) → bytes ≡ 108 ∷ r1 → OnBad f (NoneAt literals_text FitsLiterals r1) → OnBad f (NoLineAt bytes)
+no_literals bytes r1 Bad e n = λ l rest h. n l.literals (hints_text l.hints ++ (10 ∷ rest)) (h.fits.0, record { is = behind_first bytes r1 rest l e h; ends = hints_next l.hints (10 ∷ rest) })
 no_literals bytes r1 OutOfMemory e n = tt
 
 -- the literals that were read are the line's
@@ -44,8 +45,8 @@ behind_literals : (bytes r1 r2 rest : List ℕ) (c : List Lit) (l : LogLine) →
 behind_literals bytes r1 r2 rest c l e f h =
     literals_once c l.literals r2 _ f.0 h.fits.0 f.1.ends (hints_next l.hints (10 ∷ rest)) (sym f.1.is ∙ behind_first bytes r1 rest l e h)
 
-pub no_hints : (bytes r1 r2 : List ℕ) (c : List Lit) (f : LogFault) → bytes ≡ 108 ∷ r1 → FoundAt literals_text FitsLiterals r1 c r2 → OnBad f (NoneAt hints_text FitsHints r2) → OnBad f (NoLineAt bytes)
-no_hints bytes r1 r2 c BadLog e g n = λ l rest h. n l.hints (10 ∷ rest) (h.fits.1, record { is = (behind_literals bytes r1 r2 rest c l e g h).1; ends = no_feed rest })
+pub no_hints : (bytes r1 r2 : List ℕ) (c : List Lit) (f : TextFault) → bytes ≡ 108 ∷ r1 → FoundAt literals_text FitsLiterals r1 c r2 → OnBad f (NoneAt hints_text FitsHints r2) → OnBad f (NoLineAt bytes)
+no_hints bytes r1 r2 c Bad e g n = λ l rest h. n l.hints (10 ∷ rest) (h.fits.1, record { is = (behind_literals bytes r1 r2 rest c l e g h).1; ends = no_feed rest })
 no_hints bytes r1 r2 c OutOfMemory e g n = tt
 
 behind_hints : (bytes r1 r2 r3 rest : List ℕ) (c : List Lit) (hs : List ℕ) (l : LogLine) → bytes ≡ 108 ∷ r1 → FoundAt literals_text FitsLiterals r1 c r2 → FoundAt hints_text FitsHints r2 hs r3 → LineAt bytes l rest
@@ -86,8 +87,8 @@ lines_none (x ∷ xs) (l ∷ ls) rest after w f g n e =
     let a = line_once x l _ _ f.0 g.0 (sym (append_assoc (line_text x) (flat_map line_text xs) rest) ∙ e ∙ append_assoc (line_text l) (flat_map line_text ls) after) in
     lines_none xs ls rest after (omega arith) f.1 g.1 n a.1
 
-pub no_line : (bytes rest : List ℕ) (count i : ℕ) (front : List LogLine) (f : LogFault) → i < count → LinesAt bytes i front rest → OnBad f (NoLineAt rest) → OnBad f (NoLinesAt bytes count)
-no_line bytes rest count i front BadLog w s n = λ log after h. lines_none front log rest after (omega (arith, s.count_is, h.count_is)) s.fit h.fit n (sym s.is ∙ h.is)
+pub no_line : (bytes rest : List ℕ) (count i : ℕ) (front : List LogLine) (f : TextFault) → i < count → LinesAt bytes i front rest → OnBad f (NoLineAt rest) → OnBad f (NoLinesAt bytes count)
+no_line bytes rest count i front Bad w s n = λ log after h. lines_none front log rest after (omega (arith, s.count_is, h.count_is)) s.fit h.fit n (sym s.is ∙ h.is)
 no_line bytes rest count i front OutOfMemory w s n = tt
 
 pub one_line : (bytes rest after : List ℕ) (i : ℕ) (front new : List LogLine) (l : LogLine) → LinesAt bytes i front rest → LineAt rest l after → new ≡ front ++ (l ∷ []) → LinesAt bytes (i + 1) new after
@@ -117,8 +118,8 @@ log_lines bytes lines count log rest c a =
     let k = count_once count (length log) lines (flat_map line_text log ++ rest) c.fits a.fits.0 (sym c.is ∙ a.is ∙ log_is log rest) in
     record { is = k.1; count_is = sym k.0; fit = a.fits.1 }
 
-pub bad_lines : (bytes lines : List ℕ) (count : ℕ) (f : LogFault) → CountAt bytes count lines → OnBad f (NoLinesAt lines count) → (log : List LogLine) (rest : List ℕ) → LogAt bytes log rest → ReadsAt (Err f) log rest
-bad_lines bytes lines count BadLog c n log rest a = n log rest (log_lines bytes lines count log rest c a)
+pub bad_lines : (bytes lines : List ℕ) (count : ℕ) (f : TextFault) → CountAt bytes count lines → OnBad f (NoLinesAt lines count) → (log : List LogLine) (rest : List ℕ) → LogAt bytes log rest → ReadsPart {X = List LogLine} (Err f) log rest
+bad_lines bytes lines count Bad c n log rest a = n log rest (log_lines bytes lines count log rest c a)
 bad_lines bytes lines count OutOfMemory c n log rest a = tt
 
 pub log_once : (bytes lines after : List ℕ) (count : ℕ) (read log : List LogLine) (rest : List ℕ) → CountAt bytes count lines → LinesAt lines count read after → LogAt bytes log rest → (read ≡ log) × (after ≡ rest)
@@ -138,10 +139,6 @@ log_alone text log s = record { is = s.is ∙ sym (append-nil (log_text log)); f
 
 pub log_spelled : (text rest : List ℕ) (log : List LogLine) → LogAt text log rest → rest ≡ [] → Spells text log
 log_spelled text rest log a e = record { is = a.is ∙ ap (λ xs. log_text log ++ xs) e ∙ append-nil (log_text log); fits = a.fits }
-
-pub bad_log : (f : LogFault) (log : List LogLine) → ReadsAt (Err f) log [] → Reads (Err f) log
-bad_log BadLog log r = r
-bad_log OutOfMemory log r = tt
 
 number_of_log : (bytes number rest : List ℕ) (count : ℕ) → bytes ≡ codes "log " ++ number → CountAt bytes count rest → number ≡ decimal count ++ (10 ∷ rest)
 number_of_log bytes number rest count e c = tails 32 32 _ _ (tails 103 103 _ _ (tails 111 111 _ _ (tails 108 108 _ _ (sym e ∙ c.is))))

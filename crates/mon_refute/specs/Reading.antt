@@ -1,13 +1,10 @@
 -- What a reader finds at the front of a text.
-use Rattle.std.specs.Prelude.{◌≡◌, ℕ, ◌+◌, ◌<◌, ◌^◌, true, cond, List, ◌∷◌, ◌++◌, length, Option, Some, None, Result, Ok, Err, codes, decimal}
-use Rattle.std.specs.Borrow.{Bor}
+use Rattle.std.specs.Prelude.{◌≡◌, ℕ, ◌+◌, ◌<◌, ◌^◌, true, cond, List, ◌∷◌, ◌++◌, length, Option, Some, None, codes, decimal}
 use Rattle.std.specs.List.{flat_map, AllByRecursion}
 use Rattle.mon_text.specs.Numbers.{FitsNumber}
 use Rattle.mon_cnf.specs.declared.clause.Lit.{Lit}
 use Rattle.mon_refute.specs.declared.lines.LogLine.{LogLine}
 use Rattle.mon_refute.specs.declared.number.Word.{Word}
-use Rattle.mon_refute.specs.declared.read.LogFault.{LogFault}
-use Rattle.mon_refute.specs.declared.read.LogFault.TheVariants.{BadLog, OutOfMemory}
 use Rattle.mon_refute.specs.Text.{FitsLine, FitsLog, line_text, log_text}
 
 abbrev pub word_text : Word → List ℕ
@@ -31,11 +28,6 @@ FitsSome Fits (Some y) = Fits y
 
 abbrev pub word_item : {Y : Type 0} → (Option Y → Word) → Option Y → List ℕ
 word_item word y = word_text (word y)
-
--- the fault is BadLog only where this holds
-abbrev pub OnBad : LogFault → Type 0 → Type 0
-OnBad BadLog P = P
-OnBad OutOfMemory P = Unit {0}
 
 -- the line stands at the front
 pub record LineAt (bytes : List ℕ) (l : LogLine) (rest : List ℕ) : Type 0 where
@@ -62,19 +54,7 @@ pub record CountAt (bytes : List ℕ) (count : ℕ) (rest : List ℕ) : Type 0 w
 abbrev pub NoCountAt : List ℕ → Type 0
 NoCountAt bytes = (count : ℕ) (rest : List ℕ) → CountAt bytes count rest → ⊥
 
--- the log that was read, if memory sufficed
-abbrev pub Reads : Result (List LogLine) LogFault → List LogLine → Type 0
-Reads (Ok read) log = read ≡ log
-Reads (Err BadLog) log = ⊥
-Reads (Err OutOfMemory) log = Unit {0}
-
 -- the text of this log stands at the front
 pub record LogAt (bytes : List ℕ) (log : List LogLine) (rest : List ℕ) : Type 0 where
   pub is : bytes ≡ log_text log ++ rest
   pub fits : FitsLog log
-
--- the log that was read, and what stands behind it, if memory sufficed
-abbrev pub ReadsAt : Result (List LogLine × Bor (List ℕ)) LogFault → List LogLine → List ℕ → Type 0
-ReadsAt (Ok x) log rest = (x.0 ≡ log) × (x.1.now ≡ rest)
-ReadsAt (Err BadLog) log rest = ⊥
-ReadsAt (Err OutOfMemory) log rest = Unit {0}

@@ -21,7 +21,8 @@ mod write;
 pub use check::{accepted_means_none, accepts};
 pub use lines::{Hints, Log, LogLine, Logs};
 pub use mon_list::OutOfMemory;
-pub use read::{LogFault, log_at, read_log};
+pub use mon_text::TextFault as LogFault;
+pub use read::{log_at, read_log};
 pub use write::write_log;
 
 #[cfg(test)]

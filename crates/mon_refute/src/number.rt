@@ -1,10 +1,10 @@
 //! Words of a line at the front of a text.
 
-ghost use Rattle.std.specs.Prelude.{◌≡◌, ◌≢◌, ◌∷◌, List, ℕ, MatchOption, decimal};
+ghost use Rattle.std.specs.Prelude.{◌≡◌, MatchOption, decimal};
 ghost use Rattle.mon_text.specs.Numbers.{FitsNumber, NoneAt, FoundAt};
 ghost use Rattle.mon_refute.specs.Reading.{word_text, FitsWord};
 
-use mon_text::number_at;
+use mon_text::{behind, number_at};
 
 /// A number or its negative, as a word of a line.
 #[derive(Clone, Copy)]
@@ -23,24 +23,14 @@ fn signed_at(positive: bool, bytes: &[u8]) -> Option<(Word, &[u8])>
     }
 }
 
-/// The bytes behind the first, if that is this byte.
-pub fn behind(bytes: &[u8], byte: u8) -> Option<&[u8]>
-    ensures { MatchOption result ((rest : List ℕ) → bytes.now ≢ byte ∷ rest) (λ rest. bytes.now ≡ byte ∷ rest.now) }
-{
-    if bytes.is_empty() || bytes[0] != byte {
-        return None;
-    }
-    Some(&bytes[1..])
-}
-
 /// The word at the front: a space, a sign where it is negative, and its number.
 pub fn word_at(bytes: &[u8]) -> Option<(Word, &[u8])>
     ensures { MatchOption result (NoneAt word_text FitsWord bytes.now) (λ x. FoundAt word_text FitsWord bytes.now x.0 x.1.now) }
 {
-    let Some(signed) = behind(bytes, b' ') else {
+    let Some(signed) = behind(b" ", bytes) else {
         return None;
     };
-    match behind(signed, b'-') {
+    match behind(b"-", signed) {
         None => signed_at(true, signed),
         Some(rest) => signed_at(false, rest),
     }

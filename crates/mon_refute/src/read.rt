@@ -1,39 +1,18 @@
 //! Reading the text of a log.
 
-ghost use Rattle.std.specs.Prelude.{◌≡◌, ◌≢◌, ◌++◌, ℕ, ◌<◌, List, codes, Option, MatchOption, MatchResult, IfOk};
+ghost use Rattle.std.specs.Prelude.{◌≡◌, ◌≢◌, ℕ, List, Option, MatchOption, MatchResult, IfOk};
 ghost use Rattle.mon_refute.specs.Text.{literals_text, hints_text, FitsLiteral, FitsLiterals, FitsHint, FitsHints, Spells};
 ghost use Rattle.mon_text.specs.Numbers.{FoundAt, NoneAt};
-ghost use Rattle.mon_refute.specs.Reading.{literal_word, hint_word, word_item, FitsSome, OnBad, LineAt, NoLineAt, LinesAt, NoLinesAt, CountAt, NoCountAt, Reads, LogAt, ReadsAt};
+ghost use Rattle.mon_text.specs.Reads.{OnBad, ReadsAs, ReadsPart};
+ghost use Rattle.mon_refute.specs.Reading.{literal_word, hint_word, word_item, FitsSome, LineAt, NoLineAt, LinesAt, NoLinesAt, CountAt, NoCountAt, LogAt};
 ghost use Rattle.mon_refute.specs.declared.lines.LogLine.{LogLine};
 ghost use Rattle.mon_cnf.specs.declared.clause.Lit.{Lit};
-ghost use Rattle.mon_refute.specs.declared.read.LogFault.TheVariants.{OutOfMemory as MemoryFault};
 
 use crate::lines::{Hints, Log, LogLine};
-use crate::number::{Word, behind, word_at};
+use crate::number::{Word, word_at};
 use mon_cnf::{Clause, Lit};
-use mon_list::OutOfMemory;
-use mon_text::number_at;
+use mon_text::{TextFault, behind, number_at};
 use std::alloc::Global;
-use thiserror::Error;
-
-/// Why a log could not be read.
-#[derive(Clone, Copy, Debug, PartialEq, Eq, Error)]
-pub enum LogFault {
-    /// The text is that of no log.
-    #[error("bad log")]
-    BadLog,
-    /// No memory was left.
-    #[error("out of memory")]
-    OutOfMemory,
-}
-
-impl From<OutOfMemory> for LogFault {
-    ghost from_gives = { λ _ e. e ≡ MemoryFault };
-
-    fn from(_: OutOfMemory) -> LogFault {
-        LogFault::OutOfMemory
-    }
-}
 
 /// The literal that the word stands for, or no literal for the 0 that ends them. Nothing where it stands for neither.
 fn literal_of(w: Word) -> Option<Option<Lit>>
@@ -92,14 +71,14 @@ fn hint_at(bytes: &[u8]) -> Option<(Option<u64>, &[u8])>
 }
 
 /// The literals at the front and the 0 that ends them.
-fn literals_at(alloc: Global, bytes: &[u8]) -> Result<(Clause, &[u8]), LogFault>
+fn literals_at(alloc: Global, bytes: &[u8]) -> Result<(Clause, &[u8]), TextFault>
     ensures { MatchResult result (λ x. FoundAt literals_text FitsLiterals bytes.now x.0 x.1.now) (λ e. OnBad e (NoneAt literals_text FitsLiterals bytes.now)) }
 {
     let mut clause = Clause::new(alloc);
     let mut rest = bytes;
     loop {
         let Some((item, after)) = literal_at(rest) else {
-            return Err(LogFault::BadLog);
+            return Err(TextFault::Bad);
         };
         let Some(literal) = item else {
             return Ok((clause, after));
@@ -110,14 +89,14 @@ fn literals_at(alloc: Global, bytes: &[u8]) -> Result<(Clause, &[u8]), LogFault>
 }
 
 /// The hints at the front and the 0 that ends them.
-fn hints_at(alloc: Global, bytes: &[u8]) -> Result<(Hints, &[u8]), LogFault>
+fn hints_at(alloc: Global, bytes: &[u8]) -> Result<(Hints, &[u8]), TextFault>
     ensures { MatchResult result (λ x. FoundAt hints_text FitsHints bytes.now x.0 x.1.now) (λ e. OnBad e (NoneAt hints_text FitsHints bytes.now)) }
 {
     let mut hints = Hints::new(alloc);
     let mut rest = bytes;
     loop {
         let Some((item, after)) = hint_at(rest) else {
-            return Err(LogFault::BadLog);
+            return Err(TextFault::Bad);
         };
         let Some(hint) = item else {
             return Ok((hints, after));
@@ -128,22 +107,22 @@ fn hints_at(alloc: Global, bytes: &[u8]) -> Result<(Hints, &[u8]), LogFault>
 }
 
 /// The line at the front, with its line feed.
-fn line_at(alloc: Global, bytes: &[u8]) -> Result<(LogLine, &[u8]), LogFault>
+fn line_at(alloc: Global, bytes: &[u8]) -> Result<(LogLine, &[u8]), TextFault>
     ensures { MatchResult result (λ x. LineAt bytes.now x.0 x.1.now) (λ e. OnBad e (NoLineAt bytes.now)) }
 {
-    let Some(rest) = behind(bytes, b'l') else {
-        return Err(LogFault::BadLog);
+    let Some(rest) = behind(b"l", bytes) else {
+        return Err(TextFault::Bad);
     };
     let (literals, rest) = literals_at(alloc, rest)?;
     let (hints, rest) = hints_at(alloc, rest)?;
-    match behind(rest, b'\n') {
-        None => Err(LogFault::BadLog),
+    match behind(b"\n", rest) {
+        None => Err(TextFault::Bad),
         Some(rest) => Ok((LogLine { literals, hints }, rest)),
     }
 }
 
 /// So many lines at the front.
-fn lines_at(alloc: Global, count: u64, bytes: &[u8]) -> Result<(Log, &[u8]), LogFault>
+fn lines_at(alloc: Global, count: u64, bytes: &[u8]) -> Result<(Log, &[u8]), TextFault>
     ensures { MatchResult result (λ x. LinesAt bytes.now count x.0 x.1.now) (λ e. OnBad e (NoLinesAt bytes.now count)) }
 {
     let mut log = Log::new(alloc);
@@ -156,24 +135,17 @@ fn lines_at(alloc: Global, count: u64, bytes: &[u8]) -> Result<(Log, &[u8]), Log
     Ok((log, rest))
 }
 
-/// The bytes behind the first word of a log.
-fn behind_log(bytes: &[u8]) -> Option<&[u8]>
-    ensures { MatchOption result ((rest : List ℕ) → bytes.now ≢ codes "log " ++ rest) (λ rest. bytes.now ≡ codes "log " ++ rest.now) }
-{
-    bytes.strip_prefix(b"log ".as_slice())
-}
-
 /// The count in the first line of a log, and the bytes behind that line.
 fn count_at(bytes: &[u8]) -> Option<(u64, &[u8])>
     ensures { MatchOption result (NoCountAt bytes.now) (λ x. CountAt bytes.now x.0 x.1.now) }
 {
-    let Some(number) = behind_log(bytes) else {
+    let Some(number) = behind(b"log ", bytes) else {
         return None;
     };
     let Some((count, rest)) = number_at(number) else {
         return None;
     };
-    match behind(rest, b'\n') {
+    match behind(b"\n", rest) {
         None => None,
         Some(rest) => Some((count, rest)),
     }
@@ -181,14 +153,14 @@ fn count_at(bytes: &[u8]) -> Option<(u64, &[u8])>
 
 /// The log whose text stands at the front, as `read_log` describes it, and what stands behind it. It is refused where the
 /// text of no log stands there.
-pub fn log_at(alloc: Global, bytes: &[u8]) -> Result<(Log, &[u8]), LogFault>
+pub fn log_at(alloc: Global, bytes: &[u8]) -> Result<(Log, &[u8]), TextFault>
     // What is read is spelled so.
     ensures found { IfOk result (λ x. LogAt bytes.now x.0 x.1.now) }
     // The text of a log is read as that log, unless memory runs out, whatever stands behind it.
-    ensures only { (log : List LogLine) (rest : List ℕ) → LogAt bytes.now log rest → ReadsAt result log rest }
+    ensures only { (log : List LogLine) (rest : List ℕ) → LogAt bytes.now log rest → ReadsPart result log rest }
 {
     let Some((count, rest)) = count_at(bytes) else {
-        return Err(LogFault::BadLog);
+        return Err(TextFault::Bad);
     };
     let (log, rest) = lines_at(alloc, count, rest)?;
     Ok((log, rest))
@@ -200,15 +172,15 @@ pub fn log_at(alloc: Global, bytes: &[u8]) -> Result<(Log, &[u8]), LogFault>
 /// the hints and `0`, with a single space between two words. A line feed ends each line, the last one too. The first
 /// variable is written `1` and its negation `-1`, and so on to `4294967296`. No number has a leading zero, L and the
 /// hints are below 2^64, and no hint is 0.
-pub fn read_log(alloc: Global, text: &str) -> Result<Log, LogFault>
+pub fn read_log(alloc: Global, text: &str) -> Result<Log, TextFault>
     // What is read is spelled so.
     ensures found { IfOk result (Spells text.now) }
     // The text of a log is read as that log, unless memory runs out. So a text is bad only where it is of no log.
-    ensures only { (log : List LogLine) → Spells text.now log → Reads result log }
+    ensures only { (log : List LogLine) → Spells text.now log → ReadsAs (λ read. read ≡ log) result }
 {
     let (log, rest) = log_at(alloc, text.as_bytes())?;
     if !rest.is_empty() {
-        return Err(LogFault::BadLog);
+        return Err(TextFault::Bad);
     }
     Ok(log)
 }

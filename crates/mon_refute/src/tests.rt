@@ -105,7 +105,7 @@ const BAD: [&str; 22] = [
 fn reads_texts(rt: HostRuntime) {
     for text in BAD {
         assert!(rt;
-            matches!(read_log(rt.alloc(), text), Err(LogFault::BadLog)),
+            matches!(read_log(rt.alloc(), text), Err(LogFault::Bad)),
             "{text}"
         );
     }
@@ -127,7 +127,7 @@ fn reads_a_log_before_others(rt: HostRuntime) {
     assert!(rt;
         matches!(
             log_at(rt.alloc(), b"log 2\nl 0 3 0\nlog 0\n"),
-            Err(LogFault::BadLog)
+            Err(LogFault::Bad)
         )
     );
 }

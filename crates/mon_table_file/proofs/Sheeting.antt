@@ -1,5 +1,5 @@
 -- The lines of a table file are read in one way, and say what the file is of.
-use Rattle.std.proofs.Common.{◌≡◌, ℕ, suc, true, ◌≤◌, refl, sym, ap, subst, ◌∙◌, List, [], ◌∷◌, ◌++◌, length, map, Some, None, Err, arith, append_assoc}
+use Rattle.std.proofs.Common.{◌≡◌, ℕ, suc, true, ◌≤◌, refl, sym, ap, subst, ◌∙◌, List, [], ◌∷◌, ◌++◌, length, map, Some, None, arith, append_assoc}
 use Rattle.std.specs.Prelude.{◌==◌}
 use Rattle.std.proofs.lemmas.Bool.{eqb-true}
 use Rattle.std.specs.List.{flat_map, AllByRecursion}
@@ -9,14 +9,12 @@ use Rattle.mon_topo.specs.Ascending.{Ascends}
 use Rattle.mon_table.specs.declared.rule.Rule.{Rule}
 use Rattle.mon_shows.specs.declared.near.Near.{Near}
 use Rattle.mon_shows.specs.Views.{Viewing}
-use Rattle.mon_text.specs.declared.fault.FileFault.{FileFault}
-use Rattle.mon_text.specs.declared.fault.FileFault.TheVariants.{Bad, OutOfMemory}
 use Rattle.mon_text.proofs.Joining.{reader_many}
 use Rattle.mon_table_file.specs.Filling.{AreApart, IsTableOf}
 use Rattle.mon_table_file.specs.Lines.{first_line, switch_line, tags_line, miss_line, link_line, IsTag, FitsNear, Row, rule_line, FitsRow, rule_given}
-use Rattle.mon_table_file.specs.TableFile.{FitsView, FitsLink, IsTableFile, Reads}
+use Rattle.mon_table_file.specs.TableFile.{FitsView, FitsLink, IsTableFile}
 use Rattle.mon_table_file.specs.Reading.{Heading, heading_text, head_in, link_in, row_in, AreRead, view_given}
-use Rattle.mon_table_file.specs.Sheets.{IsSheet, ReadsSheet}
+use Rattle.mon_table_file.specs.Sheets.{IsSheet}
 use Rattle.mon_table_file.proofs.Apart.{one-table}
 use Rattle.mon_table_file.proofs.LineReaders.{reader_heading, reader_link, reader_row, no_link, no_row}
 use Rattle.mon_table_file.proofs.Deciding.{tag_in_range}
@@ -99,10 +97,6 @@ sheet_file text v t h links rules s e fits few apart table =
       table = subst (λ rs. IsTableOf rs t) s.given table;
     } in
     subst (λ w. IsTableFile text w t) (sym e) given
-
-pub bad_sheet : (f : FileFault) (h : Heading) (links : List Near) (rules : List Rule) (v : Viewing) (t : List Rule) → ReadsSheet (Err f) h links rules → Reads (Err f) v t
-bad_sheet Bad h links rules v t r = r
-bad_sheet OutOfMemory h links rules v t r = tt
 
 pub nothing_left : (rest : List ℕ) → true ≡ (length rest == 0) → rest ≡ []
 nothing_left [] e = refl

@@ -1,13 +1,10 @@
 -- What the lines of a table file say, each for itself.
-use Rattle.std.specs.Prelude.{◌≡◌, ℕ, List, map, ◌++◌, Result, Ok, Err}
+use Rattle.std.specs.Prelude.{◌≡◌, ℕ, List, map, ◌++◌}
 use Rattle.std.specs.List.{flat_map, AllByRecursion}
 use Rattle.mon_table.specs.declared.rule.Rule.{Rule}
 use Rattle.mon_shows.specs.declared.near.Near.{Near}
-use Rattle.mon_text.specs.declared.fault.FileFault.{FileFault}
-use Rattle.mon_text.specs.declared.fault.FileFault.TheVariants as fault
-use Rattle.mon_table_file.specs.declared.reading.Sheet.{Sheet}
 use Rattle.mon_table_file.specs.Lines.{link_line, FitsNear, Row, rule_line, FitsRow, rule_given}
-use Rattle.mon_table_file.specs.Reading.{Heading, heading, heading_text, FitsHeading}
+use Rattle.mon_table_file.specs.Reading.{Heading, heading_text, FitsHeading}
 
 -- the text is the first four lines, lines of links, and lines of rules
 pub record IsSheet (text : List ℕ) (h : Heading) (links : List Near) (rules : List Rule) : Type 0 where
@@ -17,9 +14,3 @@ pub record IsSheet (text : List ℕ) (h : Heading) (links : List Near) (rules : 
   pub near : AllByRecursion FitsNear links
   pub fit : AllByRecursion FitsRow rows
   pub given : rules ≡ map rule_given rows
-
--- the lines that were read, if memory sufficed
-abbrev pub ReadsSheet : Result Sheet FileFault → Heading → List Near → List Rule → Type 0
-ReadsSheet (Ok s) h links rules = (heading s.head ≡ h) × (s.links.items ≡ links) × (s.rules.items ≡ rules)
-ReadsSheet (Err fault.Bad) h links rules = ⊥
-ReadsSheet (Err fault.OutOfMemory) h links rules = Unit {0}

@@ -1,13 +1,11 @@
 -- A table file: a switch as its neighbours can show it, and the rules of its table.
-use Rattle.std.specs.Prelude.{◌≡◌, ◌≢◌, ℕ, ◌<◌, ◌≤◌, ◌^◌, true, List, map, ◌++◌, length, Result, Ok, Err}
+use Rattle.std.specs.Prelude.{◌≡◌, ◌≢◌, ℕ, ◌<◌, ◌≤◌, ◌^◌, true, List, map, ◌++◌, length}
 use Rattle.std.specs.List.{flat_map, AllByRecursion}
 use Rattle.mon_topo.specs.Ascending.{AreVids}
 use Rattle.mon_table.specs.declared.rule.Rule.{Rule}
 use Rattle.mon_shows.specs.declared.near.Near.{Near}
 use Rattle.mon_shows.specs.Views.{Viewing, is_in_use}
 use Rattle.mon_shows.specs.Links.{PortsAscend}
-use Rattle.mon_text.specs.declared.fault.FileFault.{FileFault}
-use Rattle.mon_text.specs.declared.fault.FileFault.TheVariants as fault
 use Rattle.mon_table_file.specs.Filling.{AreApart, IsTableOf}
 use Rattle.mon_table_file.specs.Lines.{first_line, switch_line, tags_line, miss_line, link_line, FitsNear, Row, rule_line, FitsRow, rule_given}
 
@@ -47,9 +45,3 @@ pub record IsTableFile (text : List ℕ) (v : Viewing) (t : List Rule) : Type 0 
   pub fit : AllByRecursion FitsRow rows
   pub apart : AreApart (map rule_given rows)
   pub table : IsTableOf (map rule_given rows) t
-
--- the view and the table that were read, if memory sufficed
-abbrev pub Reads : Result (Viewing × List Rule) FileFault → Viewing → List Rule → Type 0
-Reads (Ok x) v t = (x.0 ≡ v) × (x.1 ≡ t)
-Reads (Err fault.Bad) v t = ⊥
-Reads (Err fault.OutOfMemory) v t = Unit {0}

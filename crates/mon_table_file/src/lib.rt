@@ -18,5 +18,5 @@ mod tests;
 
 pub use generator::generate;
 pub use mon_list::OutOfMemory;
-pub use mon_text::FileFault;
+pub use mon_text::TextFault;
 pub use reading::read_table;

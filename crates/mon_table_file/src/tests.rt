@@ -1,6 +1,6 @@
 //! Files written by hand, texts that are no such file, and the first generated rules.
 
-use crate::{FileFault, OutOfMemory, generate, read_table};
+use crate::{OutOfMemory, TextFault, generate, read_table};
 use mon_header::Action;
 use mon_shows::View;
 use mon_table::{Rule, Table};
@@ -24,7 +24,7 @@ fn joined(alloc: Global, parts: &[&str]) -> Result<Vec<u8>, OutOfMemory> {
     Ok(text)
 }
 
-fn read(alloc: Global, head: &str, links: &str, rules: &str) -> Result<(View, Table), FileFault> {
+fn read(alloc: Global, head: &str, links: &str, rules: &str) -> Result<(View, Table), TextFault> {
     read_table(alloc, &joined(alloc, &[head, links, rules])?)
 }
 
@@ -87,7 +87,7 @@ fn refuses_other_heads(rt: HostRuntime) {
     ];
     for head in heads {
         assert!(rt;
-            matches!(read(rt.alloc(), head, "", ""), Err(FileFault::Bad)),
+            matches!(read(rt.alloc(), head, "", ""), Err(TextFault::Bad)),
             "{head}"
         );
     }
@@ -106,7 +106,7 @@ fn refuses_other_links(rt: HostRuntime) {
     ];
     for text in links {
         assert!(rt;
-            matches!(read(rt.alloc(), HEAD, text, RULES), Err(FileFault::Bad)),
+            matches!(read(rt.alloc(), HEAD, text, RULES), Err(TextFault::Bad)),
             "{text}"
         );
     }
@@ -128,7 +128,7 @@ fn refuses_other_rules(rt: HostRuntime) {
     ];
     for text in rules {
         assert!(rt;
-            matches!(read(rt.alloc(), HEAD, "", text), Err(FileFault::Bad)),
+            matches!(read(rt.alloc(), HEAD, "", text), Err(TextFault::Bad)),
             "{text}"
         );
     }
@@ -154,7 +154,7 @@ fn reads_what_is_as_long_as_it_may_be(rt: HostRuntime) -> Result<(), Fail> {
     let (_, table) = read_table(alloc, &text)?;
     assert_eq!(rt; table.len(), 1);
     assert_eq!(rt; table.rule(0).actions.items().len(), 64);
-    assert!(rt; matches!(read_table(alloc, &longer), Err(FileFault::Bad)));
+    assert!(rt; matches!(read_table(alloc, &longer), Err(TextFault::Bad)));
     Ok(())
 }
 

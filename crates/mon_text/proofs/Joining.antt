@@ -1,10 +1,11 @@
 -- Readers that read just what is spelled: alone, one behind the other, and in a row.
-use Rattle.std.proofs.Common.{◌≡◌, ℕ, ◌^◌, ◌<◌, ◌≤◌, Bool, true, false, cond, refl, sym, ap, subst, ◌∙◌, List, [], ◌∷◌, ◌++◌, length, drop, Option, Some, None, option_map, arith, decimal, append_assoc}
+use Rattle.std.proofs.Common.{◌≡◌, ◌≢◌, ℕ, ◌-◌, ◌^◌, ◌<◌, ◌≤◌, Bool, true, false, cond, refl, sym, ap, subst, ◌∙◌, List, [], ◌∷◌, ◌++◌, length, take, drop, Option, Some, None, option_map, arith, decimal, append_assoc}
 use Rattle.std.specs.Prelude.{nat_eq, nat_le, ◌&&◌, option_and_then}
 use Rattle.std.specs.List.{starts_with, flat_map, AllByRecursion}
 use Rattle.std.specs.Int.{IsInRange}
 use Rattle.std.proofs.Math.Seq.{drop-append_seam}
-use Rattle.std.proofs.lemmas.Bool.{and_parts, and_from, leb-true, le-leb, cond-true}
+use Rattle.std.proofs.lemmas.List.{take_all, length-drop}
+use Rattle.std.proofs.lemmas.Bool.{false≢true, and_parts, and_from, leb-true, le-leb, cond-true}
 use Rattle.std.proofs.lemmas.Bool.Decides.{Decides-eqb}
 use Rattle.std.proofs.lemmas.Option.{cond_some, none-some, some_pair_parts}
 use Rattle.std.proofs.lemmas.Slice.Eq.{starts_is}
@@ -41,6 +42,18 @@ behind-again front rest =
     let d = starts_is Decides-eqb (front ++ rest) front (starts_with nat_eq (front ++ rest) front) refl in
     cond-true (starts_with nat_eq (front ++ rest) front) (Some (drop (length front) (front ++ rest))) None (d.1 rest refl)
     ∙ ap Some (drop-append_seam front rest)
+
+-- the same of a slice that begins with them, and of one that doesn't
+pub front-is : (front text : List ℕ) → true ≡ starts_with nat_eq text front → text ≡ front ++ take (length text - length front) (drop (length front) text)
+front-is front text e =
+    let d = starts_is Decides-eqb text front true e in
+    let few : length (drop (length front) text) ≤ length text - length front = let k : length (drop (length front) text) ≡ length text - length front = length-drop (length front) text in omega arith in
+    d.0 refl ∙ ap (λ r. front ++ r) (sym (take_all (length text - length front) (drop (length front) text) few))
+
+pub front-other : (front text : List ℕ) → false ≡ starts_with nat_eq text front → (rest : List ℕ) → text ≢ front ++ rest
+front-other front text e rest is =
+    let d = starts_is Decides-eqb text front false e in
+    false≢true (d.1 rest is)
 
 module _ {X : Type 0} (text : X → List ℕ) (Fits : X → Type 0) (part : List ℕ → Part X) (reads : IsReader text Fits part) where
   pub reader_led : (front : List ℕ) → IsReader (λ x. front ++ text x) Fits (led front part)

@@ -1,5 +1,5 @@
-pub mod Ascii
 pub mod Decoding
+pub mod Encoding
 pub mod Fronts
 pub mod Growing
 pub mod InDigits

@@ -22,22 +22,10 @@ const VALUES: [u8; 256] = [
     16, 16, 16, 16, 16, 16, 16, 16, 16, 16, 16, 16, 16, 16,
 ];
 
-/// The digit of each number below 16.
-const DIGITS: [u8; 16] = [
-    48, 49, 50, 51, 52, 53, 54, 55, 56, 57, 97, 98, 99, 100, 101, 102,
-];
-
 fn value_of(digit: u8) -> u8
     ensures { digit_of digit ≡ digit_in result }
 {
     VALUES[usize::from(digit)]
-}
-
-fn digit_for(value: u8) -> u8
-    requires { value < 16 }
-    ensures { result ≡ hex_digit value }
-{
-    DIGITS[usize::from(value)]
 }
 
 /// The byte of two digits, the higher one first.
@@ -98,23 +86,13 @@ pub fn take_run(alloc: Global, text: &[u8]) -> Result<(Vec<u8>, &[u8]), OutOfMem
 pub fn push_digits(bytes: &[u8], out: &mut Vec<u8>) -> Result<(), AllocError>
     ensures { OnOk result (out.new.items ≡ out.old.items ++ hex bytes.now) }
 {
-    out.reserve(2 * bytes.len())?;
-    for byte in bytes {
-        out.push(digit_for(*byte / 16))?;
-        out.push(digit_for(*byte % 16))?;
-    }
-    Ok(())
+    let digits = hex::encode(*out.allocator(), bytes)?;
+    out.extend_from_slice(digits.as_bytes())
 }
 
 /// The digits of bytes, as a text of their own.
 pub fn digits(alloc: Global, bytes: &[u8]) -> Result<String, OutOfMemory>
     ensures { IfOk result (λ text. string_bytes text ≡ hex bytes.now) }
 {
-    let mut out = Vec::new(alloc);
-    push_digits(bytes, &mut out)?;
-    match String::from_utf8(out) {
-        Ok(text) => Ok(text),
-        // Digits are ASCII.
-        Err(_) => unreachable!(),
-    }
+    Ok(hex::encode(alloc, bytes)?)
 }

@@ -1,6 +1,6 @@
 //! What stands at the front of a text.
 
-ghost use Rattle.std.specs.Prelude.{◌≡◌, ◌≤◌, IfSome, option_map};
+ghost use Rattle.std.specs.Prelude.{◌≡◌, ◌≢◌, ◌≤◌, ◌++◌, ℕ, List, IfSome, MatchOption, option_map};
 ghost use Rattle.mon_text.specs.Parts.{behind, number_within, datapath_in};
 
 use crate::hexadecimal::read_digits;
@@ -8,7 +8,8 @@ use crate::numbers::number_at;
 
 /// The text behind these bytes, where they stand at the front.
 pub fn behind<'a>(front: &[u8], text: &'a [u8]) -> Option<&'a [u8]>
-    ensures { option_map (λ rest. rest.now) result ≡ behind front.now text.now }
+    ensures value { option_map (λ rest. rest.now) result ≡ behind front.now text.now }
+    ensures found { MatchOption result ((rest : List ℕ) → text.now ≢ front.now ++ rest) (λ rest. text.now ≡ front.now ++ rest.now) }
 {
     if text.starts_with(front) {
         Some(&text[front.len()..])

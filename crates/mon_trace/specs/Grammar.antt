@@ -1,13 +1,11 @@
 -- The text of a trace: a first line with the key, then nothing, or `open` and then pieces of session 0.
-use Rattle.std.specs.Prelude.{ℕ, Bool, List, [], ◌∷◌, length, drop, Option, Some, None, Result, Ok, Err, ◌≡◌, ◌==◌, nat_lt, nat_le, nat_eq, ◌&&◌, codes, if◌then◌else◌}
+use Rattle.std.specs.Prelude.{ℕ, Bool, List, [], ◌∷◌, length, drop, Option, Some, None, ◌==◌, nat_lt, nat_le, nat_eq, ◌&&◌, codes, if◌then◌else◌}
 use Rattle.std.specs.List.{starts_with}
 use Rattle.byteorder.specs.Endian.{big_number}
 use Rattle.mon_world.specs.declared.event.Side.{Side}
 use Rattle.mon_world.specs.declared.event.Side.TheVariants.{Controller, Switch}
 use Rattle.mon_world.specs.declared.event.Event.{Event}
 use Rattle.mon_world.specs.declared.event.Event.TheVariants.{Opened, Piece}
-use Rattle.mon_trace.specs.declared.fault.TraceFault.{TraceFault}
-use Rattle.mon_trace.specs.declared.fault.TraceFault.TheVariants.{BadTrace, OutOfMemory}
 use Rattle.mon_text.specs.Hex.{unhex}
 
 -- a trace: its key, and the events of its records in order
@@ -95,9 +93,3 @@ traced_in (Some (first ∷ records)) = with_key (key_of first) (events_of record
 -- the trace that a text is, none where it is no trace
 abbrev pub trace_of : List ℕ → Option Traced
 trace_of text = traced_in (lines_of text)
-
--- what was read, seen by view, is what the text says, unless memory ran out
-abbrev pub Reads : {X Y : Type 0} → (X → Y) → Result X TraceFault → Option Y → Type 0
-Reads view (Ok x) said = said ≡ Some (view x)
-Reads view (Err BadTrace) said = said ≡ None
-Reads view (Err OutOfMemory) said = Unit {0}

@@ -5,14 +5,15 @@
 
 ghost use Rattle.std.specs.Prelude.{◌≡◌, ◌+◌, ◌<◌, ◌≤◌, ◌++◌, ◌∷◌, ◌^◌, [], length, take, drop, slice_index_or, IfOk, OnOk, MatchOption};
 ghost use Rattle.mon_world.specs.declared.event.Event.TheVariants.{Opened};
-ghost use Rattle.mon_trace.specs.Grammar.{Reads, piece_of};
+ghost use Rattle.mon_text.specs.Reads.{Reads};
+ghost use Rattle.mon_trace.specs.Grammar.{piece_of};
 ghost use Rattle.mon_trace.specs.Reading.{onto, one};
 ghost use Rattle.mon_text.specs.Hex.{unhex};
 ghost use Rattle.mon_trace.specs.Run.{event_at};
 
-use crate::fault::TraceFault;
 use crate::hexadecimal::push_bytes;
 use mon_list::OutOfMemory;
+use mon_text::TextFault;
 use mon_world::{Event, Piece, Side};
 use std::alloc::{AllocError, Global};
 use std::marker::Model;
@@ -75,14 +76,14 @@ impl Events {
     }
 
     /// Appends the piece of these digits. After an error the events may only be dropped.
-    pub(crate) fn push_piece(&mut self, side: Side, digits: &[u8]) -> Result<(), TraceFault>
+    pub(crate) fn push_piece(&mut self, side: Side, digits: &[u8]) -> Result<(), TextFault>
         ensures { Reads (λ _. self.new) result (onto self.old (one (piece_of side (unhex digits.now)))) }
     {
         let start = self.bytes.len();
         push_bytes(digits, &mut self.bytes)?;
         let size = self.bytes.len() - start;
         if size == 0 || size > LARGEST_PIECE {
-            return Err(TraceFault::BadTrace);
+            return Err(TextFault::Bad);
         }
         self.places.push(Place::Bytes {
             side,

@@ -1,15 +1,16 @@
 //! The text of a trace.
 
 ghost use Rattle.std.specs.Prelude.{◌≡◌, ◌<◌, ◌^◌, length};
-ghost use Rattle.mon_trace.specs.Grammar.{Reads, record_of, switch_record, is_open, key_of, trace_of, lines_of};
+ghost use Rattle.mon_text.specs.Reads.{Reads};
+ghost use Rattle.mon_trace.specs.Grammar.{record_of, switch_record, is_open, key_of, trace_of, lines_of};
 ghost use Rattle.mon_trace.specs.Reading.{pieces_in, events_in, onto, one};
 ghost use Rattle.mon_world.specs.Logs.{AllNamed, NoStop};
 
 use crate::events::Events;
-use crate::fault::TraceFault;
 use crate::hexadecimal::push_bytes;
 use crate::lines::{before, behind, end_of_line};
 use byteorder::{BigEndian, ByteOrder};
+use mon_text::TextFault;
 use mon_world::Side;
 use std::alloc::Global;
 use std::marker::Model;
@@ -67,7 +68,7 @@ impl Trace {
 
 /// Reads a record after the first.
 #[tactic(auto, unfolding(crate::specs::Grammar::record_of))]
-fn read_record(line: &[u8], events: &mut Events) -> Result<(), TraceFault>
+fn read_record(line: &[u8], events: &mut Events) -> Result<(), TextFault>
     ensures { Reads (λ _. events.new) result (onto events.old (one (record_of line.now))) }
 {
     if line.starts_with(b"from controller 0 ") {
@@ -78,24 +79,24 @@ fn read_record(line: &[u8], events: &mut Events) -> Result<(), TraceFault>
 }
 
 #[tactic(auto, unfolding(crate::specs::Grammar::switch_record))]
-fn read_switch_record(line: &[u8], events: &mut Events) -> Result<(), TraceFault>
+fn read_switch_record(line: &[u8], events: &mut Events) -> Result<(), TextFault>
     ensures { Reads (λ _. events.new) result (onto events.old (one (switch_record line.now))) }
 {
     if line.starts_with(b"from switch 0 ") {
         events.push_piece(Side::Switch, &line[14..])
     } else {
-        Err(TraceFault::BadTrace)
+        Err(TextFault::Bad)
     }
 }
 
 /// Reads the records after the first.
-fn read_pieces(text: &[u8], events: &mut Events) -> Result<(), TraceFault>
+fn read_pieces(text: &[u8], events: &mut Events) -> Result<(), TextFault>
     ensures { Reads (λ _. events.new) result (onto events.old (pieces_in (lines_of text.now))) }
 {
     let mut rest = text;
     while !rest.is_empty() {
         let Some(end) = end_of_line(rest) else {
-            return Err(TraceFault::BadTrace);
+            return Err(TextFault::Bad);
         };
         read_record(before(rest, end), events)?;
         rest = behind(rest, end);
@@ -110,7 +111,7 @@ fn opens(line: &[u8]) -> bool
 }
 
 /// Reads all records.
-fn read_events(alloc: Global, text: &[u8]) -> Result<Events, TraceFault>
+fn read_events(alloc: Global, text: &[u8]) -> Result<Events, TextFault>
     ensures { Reads (λ events. events) result (events_in (lines_of text.now)) }
 {
     // A piece of n bytes has a line of more than 2 n.
@@ -119,10 +120,10 @@ fn read_events(alloc: Global, text: &[u8]) -> Result<Events, TraceFault>
         return Ok(events);
     }
     let Some(end) = end_of_line(text) else {
-        return Err(TraceFault::BadTrace);
+        return Err(TextFault::Bad);
     };
     if !opens(before(text, end)) {
-        return Err(TraceFault::BadTrace);
+        return Err(TextFault::Bad);
     }
     events.push_opening()?;
     read_pieces(behind(text, end), &mut events)?;
@@ -131,11 +132,11 @@ fn read_events(alloc: Global, text: &[u8]) -> Result<Events, TraceFault>
 
 /// The key of the first line.
 #[tactic(auto, unfolding(crate::specs::Grammar::key_of))]
-fn read_key(alloc: Global, line: &[u8]) -> Result<u64, TraceFault>
+fn read_key(alloc: Global, line: &[u8]) -> Result<u64, TextFault>
     ensures { Reads (λ key. key) result (key_of line.now) }
 {
     if !line.starts_with(b"monocle-trace 1 ") || line.len() != 32 {
-        return Err(TraceFault::BadTrace);
+        return Err(TextFault::Bad);
     }
     let mut bytes = Vec::with_capacity(alloc, 8)?;
     push_bytes(&line[16..], &mut bytes)?;
@@ -143,14 +144,14 @@ fn read_key(alloc: Global, line: &[u8]) -> Result<u64, TraceFault>
 }
 
 /// The trace that a text is, or that it is none.
-pub fn read_trace(alloc: Global, text: &[u8]) -> Result<Trace, TraceFault>
+pub fn read_trace(alloc: Global, text: &[u8]) -> Result<Trace, TextFault>
     ensures { Reads (λ t. t) result (trace_of text.now) }
 {
     if text.is_empty() {
-        return Err(TraceFault::BadTrace);
+        return Err(TextFault::Bad);
     }
     let Some(end) = end_of_line(text) else {
-        return Err(TraceFault::BadTrace);
+        return Err(TextFault::Bad);
     };
     let key = read_key(alloc, before(text, end))?;
     let events = read_events(alloc, behind(text, end))?;

@@ -2,14 +2,13 @@
 
 ghost use Rattle.std.specs.Prelude.{◌≡◌, ◌+◌, ◌*◌, ◌≤◌, OnOk, length};
 ghost use Rattle.mon_text.specs.Hex.{unhex};
-ghost use Rattle.mon_trace.specs.Grammar.{Reads};
+ghost use Rattle.mon_text.specs.Reads.{Reads};
 ghost use Rattle.mon_trace.specs.Reading.{onto};
 
-use crate::fault::TraceFault;
-use mon_text::byte_of;
+use mon_text::{TextFault, byte_of};
 
 /// Appends the bytes that pairs of digits say. After an error some of them may have been appended.
-pub(crate) fn push_bytes(digits: &[u8], out: &mut Vec<u8>) -> Result<(), TraceFault>
+pub(crate) fn push_bytes(digits: &[u8], out: &mut Vec<u8>) -> Result<(), TextFault>
     ensures value { Reads (λ _. out.new.items) result (onto out.old.items (unhex digits.now)) }
     ensures longer { length out.old.items ≤ length out.new.items }
     ensures half { OnOk result (2 * length out.new.items ≡ 2 * length out.old.items + length digits.now) }
@@ -18,13 +17,13 @@ pub(crate) fn push_bytes(digits: &[u8], out: &mut Vec<u8>) -> Result<(), TraceFa
     let mut rest = digits;
     while let [first, second, after @ ..] = rest {
         let Some(byte) = byte_of(*first, *second) else {
-            return Err(TraceFault::BadTrace);
+            return Err(TextFault::Bad);
         };
         out.push(byte)?;
         rest = after;
     }
     if !rest.is_empty() {
-        return Err(TraceFault::BadTrace);
+        return Err(TextFault::Bad);
     }
     Ok(())
 }

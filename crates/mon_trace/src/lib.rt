@@ -10,7 +10,6 @@
 #![tactic(auto)]
 
 mod events;
-mod fault;
 mod grammar;
 mod hexadecimal;
 mod hub;
@@ -21,8 +20,8 @@ mod table;
 #[cfg(test)]
 mod tests;
 
-pub use fault::TraceFault;
 pub use grammar::{Trace, read_trace};
 pub use hub::TraceHub;
 pub use mon_list::OutOfMemory;
+pub use mon_text::TextFault as TraceFault;
 pub use table::table_line;

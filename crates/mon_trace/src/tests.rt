@@ -48,7 +48,7 @@ fn reads_a_trace(rt: HostRuntime) -> Result<(), Fail> {
 #[test]
 fn refuses_what_is_no_trace(rt: HostRuntime) -> Result<(), Fail> {
     let alloc = rt.alloc();
-    let bad = Some(TraceFault::BadTrace);
+    let bad = Some(TraceFault::Bad);
     let texts: [&[u8]; 7] = [
         b"",
         b"monocle-trace 1 00000000000000ff",

@@ -10,11 +10,12 @@ use Rattle.mon_words.specs.declared.command.Command.{Command}
 use Rattle.mon_words.specs.declared.command.Command.TheVariants as command
 use Rattle.mon_words.specs.declared.given.Given.{Given}
 use Rattle.mon_words.specs.declared.given.Given.TheVariants.{Never, Once, Often}
-use Rattle.mon_words.specs.declared.fault.WordsFault.{WordsFault}
-use Rattle.mon_words.specs.declared.fault.WordsFault.TheVariants.{Bad, OutOfMemory}
+use Rattle.mon_text.specs.declared.fault.TextFault.{TextFault}
+use Rattle.mon_text.specs.declared.fault.TextFault.TheVariants.{Bad, OutOfMemory}
+use Rattle.mon_text.specs.Reads.{Reads}
 use Rattle.mon_words.specs.declared.reading.State.TheVariants as state
 use Rattle.mon_words.specs.Words.{names_in, certificates_in, given_in, source_of, workers_of, asked_of, AsksPlan, AsksCheck, SpellsAll, Spells}
-use Rattle.mon_words.specs.Reading.{Reads, arguments_of, last_of, plan_from, plan_of, check_from, check_of, replay_of, command_of}
+use Rattle.mon_words.specs.Reading.{arguments_of, last_of, plan_from, plan_of, check_from, check_of, replay_of, command_of}
 use Rattle.mon_words.proofs.Numbers.{by_cases}
 use Rattle.mon_words.proofs.Arguments.{all_read, all_spelled, chosen, kept}
 
@@ -147,16 +148,16 @@ command_spelled (word ∷ rest) c e = by_cases (bytes_eq word (codes "replay"))
 
 -- what the answer of a reader says
 
-pub spelled : (words : List (List ℕ)) (r : Result Command WordsFault) → Reads (λ c. c) r (command_of words) → IfOk r (λ c. Spells c words)
+pub spelled : (words : List (List ℕ)) (r : Result Command TextFault) → Reads (λ c. c) r (command_of words) → IfOk r (λ c. Spells c words)
 spelled words (Ok c) e = command_spelled words c e
 spelled words (Err f) e = tt
 
-pub alone : (words : List (List ℕ)) (r : Result Command WordsFault) → Reads (λ c. c) r (command_of words)
+pub alone : (words : List (List ℕ)) (r : Result Command TextFault) → Reads (λ c. c) r (command_of words)
     → IfOk r (λ c. (other : Command) → Spells other words → other ≡ c)
 alone words (Ok c) e = λ other s. same_command other c (sym (command_read other words s) ∙ e)
 alone words (Err f) e = tt
 
-pub bad : (words : List (List ℕ)) (r : Result Command WordsFault) → Reads (λ c. c) r (command_of words)
+pub bad : (words : List (List ℕ)) (r : Result Command TextFault) → Reads (λ c. c) r (command_of words)
     → r ≡ Err Bad → (c : Command) → Spells c words → ⊥
 bad words (Ok c) e q other s = cc
 bad words (Err Bad) e q other s = let p = command_read other words s in cc

@@ -1,13 +1,11 @@
 -- How words are read, one after the other.
-use Rattle.std.specs.Prelude.{◌≡◌, ℕ, Bool, true, false, ◌&&◌, if◌then◌else◌, List, [], ◌∷◌, ◌++◌, Option, Some, None, Result, Ok, Err, option_map, option_and_then, codes, decimal, nat_le, ◌==◌}
+use Rattle.std.specs.Prelude.{ℕ, Bool, true, false, ◌&&◌, if◌then◌else◌, List, [], ◌∷◌, ◌++◌, Option, Some, None, option_map, option_and_then, codes, decimal, nat_le, ◌==◌}
 use Rattle.std.specs.Str.{bytes_eq}
 use Rattle.std.specs.Str.Parse.{digits_value}
 use Rattle.mon_words.specs.declared.argument.Kind.{Kind}
 use Rattle.mon_words.specs.declared.argument.Kind.TheVariants.{Workers, Generate, Seed}
 use Rattle.mon_words.specs.declared.argument.Argument.{Argument}
 use Rattle.mon_words.specs.declared.argument.Argument.TheVariants.{Name, Number, Certificates}
-use Rattle.mon_words.specs.declared.fault.WordsFault.{WordsFault}
-use Rattle.mon_words.specs.declared.fault.WordsFault.TheVariants.{Bad, OutOfMemory}
 use Rattle.mon_words.specs.declared.reading.State.{State}
 use Rattle.mon_words.specs.declared.reading.State.TheVariants as state
 use Rattle.mon_words.specs.declared.reading.Step.{Step}
@@ -18,12 +16,6 @@ use Rattle.mon_words.specs.declared.command.Source.{Source}
 use Rattle.mon_words.specs.declared.given.Given.{Given}
 use Rattle.mon_words.specs.declared.given.Given.TheVariants.{Never, Once, Often}
 use Rattle.mon_words.specs.Words.{is_name, names_in, certificates_in, given_of, given_in, source_of, workers_of, asked_of}
-
--- a result that is this, if memory suffices
-abbrev pub Reads : {X Y : Type 0} → (X → Y) → Result X WordsFault → Option Y → Type 0
-Reads view (Ok x) said = said ≡ Some (view x)
-Reads view (Err Bad) said = said ≡ None
-Reads view (Err OutOfMemory) said = Unit {0}
 
 -- the option of a word
 abbrev pub kind_of : List ℕ → Option Kind

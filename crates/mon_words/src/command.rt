@@ -3,12 +3,13 @@
 ghost use Rattle.std.specs.Prelude.{◌≡◌, Err, IfOk};
 ghost use Rattle.mon_words.specs.declared.command.Command.{Command};
 ghost use Rattle.mon_words.specs.Words.{Spells};
-ghost use Rattle.mon_words.specs.Reading.{Reads, plan_of, check_of, replay_of, command_of};
+ghost use Rattle.mon_text.specs.Reads.{Reads};
+ghost use Rattle.mon_words.specs.Reading.{plan_of, check_of, replay_of, command_of};
 
 use crate::argument::{Argument, Kind};
-use crate::fault::WordsFault;
 use crate::given::{Given, asks_certificates, given_in, names_in, source_of, workers_of};
 use crate::reading::arguments_of;
+use mon_text::TextFault;
 use mon_world::Text;
 use std::alloc::Global;
 
@@ -43,7 +44,7 @@ pub enum Command {
 }
 
 /// The replay that names and options ask for: two names alone.
-fn replay_of(alloc: Global, arguments: &[Argument]) -> Result<Command, WordsFault>
+fn replay_of(alloc: Global, arguments: &[Argument]) -> Result<Command, TextFault>
     ensures { Reads (λ command. command) result (replay_of arguments.now) }
 {
     match arguments {
@@ -52,12 +53,12 @@ fn replay_of(alloc: Global, arguments: &[Argument]) -> Result<Command, WordsFaul
             let trace = Text::new(alloc, trace.as_str())?;
             Ok(Command::Replay { settings, trace })
         }
-        _ => Err(WordsFault::Bad),
+        _ => Err(TextFault::Bad),
     }
 }
 
 /// The plan that names and options ask for.
-fn plan_of(alloc: Global, arguments: Vec<Argument>) -> Result<Command, WordsFault>
+fn plan_of(alloc: Global, arguments: Vec<Argument>) -> Result<Command, TextFault>
     ensures { Reads (λ command. command) result (plan_of arguments.items) }
 {
     let n = given_in(Kind::Generate, &arguments);
@@ -72,12 +73,12 @@ fn plan_of(alloc: Global, arguments: Vec<Argument>) -> Result<Command, WordsFaul
             workers,
             certificates,
         }),
-        _ => Err(WordsFault::Bad),
+        _ => Err(TextFault::Bad),
     }
 }
 
 /// The check that names and options ask for.
-fn check_of(alloc: Global, arguments: Vec<Argument>) -> Result<Command, WordsFault>
+fn check_of(alloc: Global, arguments: Vec<Argument>) -> Result<Command, TextFault>
     ensures { Reads (λ command. command) result (check_of arguments.items) }
 {
     let n = given_in(Kind::Generate, &arguments);
@@ -86,36 +87,36 @@ fn check_of(alloc: Global, arguments: Vec<Argument>) -> Result<Command, WordsFau
     let asked = asks_certificates(&arguments);
     let mut names = names_in(alloc, arguments)?;
     let Some(certificates) = names.pop() else {
-        return Err(WordsFault::Bad);
+        return Err(TextFault::Bad);
     };
     match (workers, asked, source_of(names, n, seed)) {
         (Given::Never, Some(false), Some(source)) => Ok(Command::Check {
             source,
             certificates,
         }),
-        _ => Err(WordsFault::Bad),
+        _ => Err(TextFault::Bad),
     }
 }
 
-fn command_of(alloc: Global, words: &[Text]) -> Result<Command, WordsFault>
+fn command_of(alloc: Global, words: &[Text]) -> Result<Command, TextFault>
     ensures { Reads (λ command. command) result (command_of words.now) }
 {
     match words {
-        [] => Err(WordsFault::Bad),
+        [] => Err(TextFault::Bad),
         [word, rest @ ..] => match word.as_str() {
             "replay" => replay_of(alloc, &arguments_of(alloc, rest)?),
             "plan" => plan_of(alloc, arguments_of(alloc, rest)?),
             "check" => check_of(alloc, arguments_of(alloc, rest)?),
-            _ => Err(WordsFault::Bad),
+            _ => Err(TextFault::Bad),
         },
     }
 }
 
 /// The command that the words spell: the command, and then names and options in any order, each option at most once.
-pub fn read_words(alloc: Global, words: &[Text]) -> Result<Command, WordsFault>
+pub fn read_words(alloc: Global, words: &[Text]) -> Result<Command, TextFault>
     ensures spelled { IfOk result (λ command. Spells command words.now) }
     ensures alone { IfOk result (λ command. (other : Command) → Spells other words.now → other ≡ command) }
-    ensures bad { result ≡ Err WordsFault.Bad → (command : Command) → Spells command words.now → ⊥ }
+    ensures bad { result ≡ Err TextFault.Bad → (command : Command) → Spells command words.now → ⊥ }
 {
     command_of(alloc, words)
 }

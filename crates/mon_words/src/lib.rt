@@ -5,12 +5,12 @@
 //! no command, and no words spell two.
 //!
 //! The words are read once, from the first to the last, as a list of names and options, and the command is what these
-//! ask for. `replay` takes no options today, so its names may not begin with `-`, unless they are `-`.
+//! ask for. `replay` takes no options today, so a word that begins with `-` and is not `-` alone is refused there, unless
+//! `--` stands before it: `replay -- -s -t` reads the files `-s` and `-t`.
 #![tactic(auto)]
 
 mod argument;
 mod command;
-mod fault;
 mod given;
 mod options;
 mod reading;
@@ -18,5 +18,5 @@ mod reading;
 mod tests;
 
 pub use command::{Command, Source, read_words};
-pub use fault::WordsFault;
+pub use mon_text::TextFault as WordsFault;
 pub use mon_world::Text;

@@ -4,12 +4,13 @@ ghost use Rattle.std.specs.Prelude.{◌≡◌, ◌++◌, Some, OnOk};
 ghost use Rattle.mon_words.specs.declared.argument.Argument.TheVariants.{Name};
 ghost use Rattle.mon_words.specs.declared.reading.State.TheVariants.{Arguments};
 ghost use Rattle.mon_words.specs.Words.{is_name};
-ghost use Rattle.mon_words.specs.Reading.{Reads, only, option_step, step_of, may_end, said_of, arguments_of};
+ghost use Rattle.mon_text.specs.Reads.{Reads};
+ghost use Rattle.mon_words.specs.Reading.{only, option_step, step_of, may_end, said_of, arguments_of};
 
 use crate::argument::{Argument, Kind};
-use crate::fault::WordsFault;
 use crate::options::{joined_of, kind_of, number_of};
 use mon_list::OutOfMemory;
+use mon_text::TextFault;
 use mon_world::Text;
 use std::alloc::Global;
 
@@ -70,7 +71,7 @@ fn option_step(word: &str) -> Option<Step>
     Some(only(argument))
 }
 
-fn named(alloc: Global, word: &Text, state: State) -> Result<Step, WordsFault>
+fn named(alloc: Global, word: &Text, state: State) -> Result<Step, TextFault>
     ensures { Reads (λ step. step) result (Some (record { says = Some (Name word.now); state = state })) }
 {
     let name = Text::new(alloc, word.as_str())?;
@@ -81,14 +82,14 @@ fn named(alloc: Global, word: &Text, state: State) -> Result<Step, WordsFault>
 }
 
 /// Reads the next word.
-fn next_step(alloc: Global, from: State, word: &Text) -> Result<Step, WordsFault>
+fn next_step(alloc: Global, from: State, word: &Text) -> Result<Step, TextFault>
     ensures { Reads (λ step. step) result (step_of from word.now) }
 {
     match from {
         State::Names => named(alloc, word, State::Names),
         State::NumberOf(kind) => match number_of(kind, word.as_str()) {
             Some(n) => Ok(only(Argument::Number(kind, n))),
-            None => Err(WordsFault::Bad),
+            None => Err(TextFault::Bad),
         },
         State::Arguments => {
             if is_name(word.as_str()) {
@@ -96,7 +97,7 @@ fn next_step(alloc: Global, from: State, word: &Text) -> Result<Step, WordsFault
             }
             match option_step(word.as_str()) {
                 Some(step) => Ok(step),
-                None => Err(WordsFault::Bad),
+                None => Err(TextFault::Bad),
             }
         }
     }
@@ -122,7 +123,7 @@ fn may_end(state: State) -> bool
 }
 
 /// The names and options of the words after the command.
-pub(crate) fn arguments_of(alloc: Global, words: &[Text]) -> Result<Vec<Argument>, WordsFault>
+pub(crate) fn arguments_of(alloc: Global, words: &[Text]) -> Result<Vec<Argument>, TextFault>
     ensures { Reads (λ arguments. arguments.items) result (arguments_of Arguments words.now) }
 {
     let mut arguments = Vec::new(alloc);
@@ -135,6 +136,6 @@ pub(crate) fn arguments_of(alloc: Global, words: &[Text]) -> Result<Vec<Argument
     if may_end(state) {
         Ok(arguments)
     } else {
-        Err(WordsFault::Bad)
+        Err(TextFault::Bad)
     }
 }

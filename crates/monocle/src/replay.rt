@@ -61,7 +61,7 @@ pub fn replay<D: Desk>(alloc: Global, settings: &str, trace: &str, desk: &mut D)
     drop(said);
     let traced = match read {
         Ok(traced) => traced,
-        Err(TraceFault::BadTrace) => return refused(alloc, desk, 5, b"monocle: trace\n"),
+        Err(TraceFault::Bad) => return refused(alloc, desk, 5, b"monocle: trace\n"),
         Err(TraceFault::OutOfMemory) => {
             return refused(alloc, desk, 7, b"monocle: out of memory\n");
         }

@@ -4,21 +4,21 @@ use Rattle.mon_certificate_file.proofs.reading.certificate_at.Goals as goal
 
 pub returns-in-Some-probe_at-clause-found : goal.returns-in-Some-probe_at-clause-found
 returns-in-Some-probe_at-clause-found c =
-    probe_found c.args.rule c.args.text.now c.in-Some.rest.now c.in-Some-probe_at.h c.in-Some-probe_at.e c.in-Some-probe_at.rest.now (sym c.in-Some.ensures) (sym c.in-Some-probe_at.ensures)
+    probe_found c.args.rule c.args.text.now c.in-Some.rest.now c.in-Some-probe_at.h c.in-Some-probe_at.e c.in-Some-probe_at.rest.now (sym c.in-Some.ensures.value) (sym c.in-Some-probe_at.ensures)
 
 pub returns-in-Some-probe_at-clause-only : goal.returns-in-Some-probe_at-clause-only
 returns-in-Some-probe_at-clause-only c certificate rest a =
-    probe_same c.args.rule c.args.text.now c.in-Some.rest.now c.in-Some-probe_at.h c.in-Some-probe_at.e c.in-Some-probe_at.rest.now certificate rest (sym c.in-Some.ensures) (sym c.in-Some-probe_at.ensures) a
+    probe_same c.args.rule c.args.text.now c.in-Some.rest.now c.in-Some-probe_at.h c.in-Some-probe_at.e c.in-Some-probe_at.rest.now certificate rest (sym c.in-Some.ensures.value) (sym c.in-Some-probe_at.ensures) a
 
 pub returns-in-None-clause-only : goal.returns-in-None-clause-only
-returns-in-None-clause-only c certificate rest a = probe_none c.args.rule c.args.text.now c.in-Some.rest.now certificate rest (sym c.in-Some.ensures) (sym c.in-None.ensures) a
+returns-in-None-clause-only c certificate rest a = probe_none c.args.rule c.args.text.now c.in-Some.rest.now certificate rest (sym c.in-Some.ensures.value) (sym c.in-None.ensures) a
 
 pub returns-in-Some-overlap_at-clause-found : goal.returns-in-Some-overlap_at-clause-found
-returns-in-Some-overlap_at-clause-found c = overlap_found c.args.rule c.args.text.now c.in-Some-behind-2.rest.now c.in-Some-overlap_at.rest.now (sym c.in-Some-behind-2.ensures) (sym c.in-Some-overlap_at.ensures)
+returns-in-Some-overlap_at-clause-found c = overlap_found c.args.rule c.args.text.now c.in-Some-behind-2.rest.now c.in-Some-overlap_at.rest.now (sym c.in-Some-behind-2.ensures.value) (sym c.in-Some-overlap_at.ensures)
 
 pub returns-in-Some-overlap_at-clause-only : goal.returns-in-Some-overlap_at-clause-only
 returns-in-Some-overlap_at-clause-only c certificate rest a =
-    overlap_same c.args.rule c.args.text.now c.in-Some-behind-2.rest.now c.in-Some-overlap_at.rest.now certificate rest (sym c.in-Some-behind-2.ensures) (sym c.in-Some-overlap_at.ensures) a
+    overlap_same c.args.rule c.args.text.now c.in-Some-behind-2.rest.now c.in-Some-overlap_at.rest.now certificate rest (sym c.in-Some-behind-2.ensures.value) (sym c.in-Some-overlap_at.ensures) a
 
 pub returns-in-None-overlap_at-clause-only : goal.returns-in-None-overlap_at-clause-only
-returns-in-None-overlap_at-clause-only c certificate rest a = overlap_none c.args.rule c.args.text.now c.in-Some-behind-2.rest.now certificate rest (sym c.in-Some-behind-2.ensures) (sym c.in-None-overlap_at.ensures) a
+returns-in-None-overlap_at-clause-only c certificate rest a = overlap_none c.args.rule c.args.text.now c.in-Some-behind-2.rest.now certificate rest (sym c.in-Some-behind-2.ensures.value) (sym c.in-None-overlap_at.ensures) a

@@ -2,7 +2,7 @@ use Rattle.std.proofs.Common.{ℕ, List, [], length, sym, ap, ◌∙◌}
 use Rattle.std.specs.Prelude.{◌==◌}
 use Rattle.std.proofs.lemmas.Bool.{false≢true}
 use Rattle.std.proofs.lemmas.Result.{err_from_is_err_and}
-use Rattle.mon_certificate_file.proofs.Certifying.{file_found, file_row, file_none, bad_file, none_left}
+use Rattle.mon_certificate_file.proofs.Certifying.{file_found, file_row, file_none, none_left}
 use Rattle.mon_certificate_file.proofs.reading.read_certificates.Goals as goal
 
 pub returns-in_default-clause-only : goal.returns-in_default-clause-only
@@ -11,7 +11,7 @@ returns-in_default-clause-only c cs s = file_none c.args.text.now cs (sym c.in_d
 pub returns-in_err-certificates-clause-only : goal.returns-in_err-certificates-clause-only
 returns-in_err-certificates-clause-only c cs s =
     let p = err_from_is_err_and c.from_residual.result c.from_residual.ensures.1 in
-    rw (p.1, p.2) (bad_file c.in_err-certificates.field-0.0 cs [] (c.in_err-certificates.ensures.only cs [] (file_row c.args.text.now c.in-Some.rest.now c.in-Some.count cs (sym c.in-Some.ensures) s)))
+    rw (p.1, p.2) (c.in_err-certificates.ensures.only cs [] (file_row c.args.text.now c.in-Some.rest.now c.in-Some.count cs (sym c.in-Some.ensures) s))
 
 pub returns-then-not-is_empty-clause-only : goal.returns-then-not-is_empty-clause-only
 returns-then-not-is_empty-clause-only c cs s =

@@ -6,13 +6,13 @@ use Rattle.mon_table_file.specs.Lines.{rule_given}
 use Rattle.mon_table_file.specs.TableFile.{FitsView}
 use Rattle.mon_table_file.specs.Reading.{heading}
 use Rattle.mon_table_file.proofs.Apart.{one-table}
-use Rattle.mon_table_file.proofs.Sheeting.{head_of, file_sheet, sheet_file, bad_sheet, few_rules, same_view}
+use Rattle.mon_table_file.proofs.Sheeting.{head_of, file_sheet, sheet_file, few_rules, same_view}
 use Rattle.mon_table_file.proofs.reading.read_table.Goals as goal
 
 pub returns-in_err-sheet-clause-only : goal.returns-in_err-sheet-clause-only
 returns-in_err-sheet-clause-only c v t f =
     let p = err_from_is_err_and c.from_residual.result c.from_residual.ensures.1 in
-    rw (p.1, p.2) (bad_sheet c.in_err-sheet.field-0.0 (head_of v) v.links (map rule_given f.rows) v t (c.in_err-sheet.ensures.only (head_of v) v.links (map rule_given f.rows) (file_sheet c.args.text.now v t f)))
+    rw (p.1, p.2) (c.in_err-sheet.ensures.only (head_of v) v.links (map rule_given f.rows) (file_sheet c.args.text.now v t f))
 
 pub returns-then-len-gt-MOST_RULES-clause-only : goal.returns-then-len-gt-MOST_RULES-clause-only
 returns-then-len-gt-MOST_RULES-clause-only c v t f =
