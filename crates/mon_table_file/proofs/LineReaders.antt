@@ -11,7 +11,8 @@ use Rattle.mon_text.specs.Parts.{Part, behind, led, ended, both, passing, pair_i
 use Rattle.mon_text.proofs.Joining.{IsReader, bound, mapped, pair_is, behind-found, behind-again, reader_led, reader_ended, reader_seen, reader_as, reader_both, reader_within, number_within-found, number_within-again}
 use Rattle.mon_text.proofs.InDigits.{reader_bytes, reader_datapath, run-found, run-again}
 use Rattle.mon_shows.specs.declared.near.Near.{Near}
-use Rattle.mon_table_file.specs.Lines.{datapath_text, first_line, switch_line, tag_text, tags_line, miss_line, link_line, IsPort, IsTag, FitsNear, Row, actions_text, rule_line, are_actions, AreActions, FitsRow}
+use Rattle.mon_rule_line.specs.RuleWords.{actions_text}
+use Rattle.mon_table_file.specs.Lines.{datapath_text, first_line, switch_line, tag_text, tags_line, miss_line, link_line, IsPort, IsTag, FitsNear, Row, rule_line, are_actions, AreActions, FitsRow}
 use Rattle.mon_table_file.specs.Reading.{port_in, datapath_word, last_tag, switch_in, miss_in, tag_before, end_or, tags_in, tags_line_in, near_of, link_in, are_some_actions, run_of, actions_in, front_in, row_of, row_in, Heading, heading_of, head_in, FitsTags, FitsHeading, heading_text}
 
 no_digit : IsInRange 48 57 32 → ⊥

@@ -9,6 +9,7 @@ use Rattle.mon_shows.specs.declared.near.Near.{Near}
 use Rattle.of_match.specs.Layout.{match_of}
 use Rattle.of_action.specs.Reading.{actions_of}
 use Rattle.mon_text.specs.Parts.{feed}
+use Rattle.mon_rule_line.specs.RuleWords.{rule_words}
 
 -- sixteen digits
 abbrev pub datapath_text : ℕ → List ℕ
@@ -58,14 +59,9 @@ pub record Row : Type 0 where
   pub matching : List ℕ
   pub actions : List ℕ
 
--- the digits of actions, and a dash where there are none
-abbrev pub actions_text : List ℕ → List ℕ
-actions_text [] = codes "-"
-actions_text (byte ∷ bytes) = hex (byte ∷ bytes)
-
+-- the line of a rule
 abbrev pub rule_line : Row → List ℕ
-rule_line r =
-    codes "rule " ++ (decimal r.priority ++ (codes " " ++ (hex r.matching ++ (codes " " ++ (actions_text r.actions ++ feed)))))
+rule_line r = codes "rule " ++ rule_words r.priority r.matching r.actions
 
 -- whole actions (OpenFlow 1.0.0, flow action structures), at most 512 bytes of them
 abbrev pub are_actions : List ℕ → Bool

@@ -2,8 +2,8 @@
 //!
 //! `read_trace` accepts the texts of `specs/Grammar.antt` and no others, and gives the key and the events that they say.
 //! `TraceHub` gives these events in order and then Stop, tells its log, and its `text` is the text of that log
-//! (`specs/Run.antt`): a line for each output, with the number of the record that was handled. `table_line` is the line
-//! of one rule of a session's table (`specs/TableLines.antt`).
+//! (`specs/Run.antt`): a line for each output, with the number of the record that was handled. `table_line`, the line of
+//! one rule of a session's table, is that of `mon_rule_line`.
 //!
 //! A trace may be large, so nothing is kept twice. The bytes of all pieces stand in one vector, a piece is a place in
 //! it, and the hub's log is its place in the trace and the text that it has written.
@@ -16,12 +16,11 @@ mod hub;
 mod lines;
 mod outputs;
 mod printing;
-mod table;
 #[cfg(test)]
 mod tests;
 
 pub use grammar::{Trace, read_trace};
 pub use hub::TraceHub;
 pub use mon_list::OutOfMemory;
+pub use mon_rule_line::table_line;
 pub use mon_text::TextFault as TraceFault;
-pub use table::table_line;

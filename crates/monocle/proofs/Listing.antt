@@ -4,7 +4,7 @@ use Rattle.std.specs.Prelude.{slice_get}
 use Rattle.std.proofs.lemmas.List.{drop_more}
 use Rattle.std.proofs.lemmas.Option.{slice_get_within, get_or_from_slice_get}
 use Rattle.mon_table.specs.declared.rule.Rule.{Rule}
-use Rattle.mon_trace.specs.TableLines.{table_lines}
+use Rattle.mon_rule_line.specs.TableLines.{table_lines}
 use Rattle.monocle.specs.Replay.{lines_of_tables}
 
 pub table-more : (tables : List (ℕ × List Rule)) (place session : ℕ) (t : List Rule) (bytes more all : List ℕ) → slice_get tables place ≡ Some (session, t)

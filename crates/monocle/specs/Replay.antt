@@ -9,7 +9,7 @@ use Rattle.mon_table.specs.declared.rule.Rule.{Rule}
 use Rattle.mon_core.specs.Streams.{AtTurnEnds, IsPassed, armed_in}
 use Rattle.mon_trace.specs.Grammar.{Traced, trace_of}
 use Rattle.mon_trace.specs.Run.{text}
-use Rattle.mon_trace.specs.TableLines.{table_lines}
+use Rattle.mon_rule_line.specs.TableLines.{table_lines}
 use Rattle.monocle.specs.Planning.{Contents}
 
 -- the history of a run of these events, in order and then Stop: at each turn's end each frame that came had its fate, in

@@ -2,7 +2,7 @@
 
 ghost use Rattle.std.specs.Prelude.{◌≡◌, ◌++◌, OnOk};
 ghost use Rattle.mon_core.specs.History.{armed};
-ghost use Rattle.mon_trace.specs.TableLines.{table_lines};
+ghost use Rattle.mon_rule_line.specs.TableLines.{table_lines};
 ghost use Rattle.monocle.specs.Replay.{lines_of_tables};
 
 use mon_core::Core;

@@ -1,5 +1,5 @@
 use Rattle.std.proofs.Common.{◌≡◌, ◌++◌, drop}
-use Rattle.mon_trace.specs.TableLines.{table_lines}
+use Rattle.mon_rule_line.specs.TableLines.{table_lines}
 use Rattle.monocle.proofs.tables.push_table.Given as goal
 
 abbrev pub invariant-loop-place : goal.invariant-loop-place

@@ -1,9 +1,9 @@
 //! The lines of a session's table.
 
 ghost use Rattle.std.specs.Prelude.{◌≡◌, string_bytes, IfOk};
-ghost use Rattle.mon_trace.specs.TableLines.{actions_text, table_line};
+ghost use Rattle.mon_rule_line.specs.RuleWords.{actions_text};
+ghost use Rattle.mon_rule_line.specs.TableLines.{table_line};
 
-use mon_header::Actions;
 use mon_list::OutOfMemory;
 use mon_table::Rule;
 use mon_text::digits;
@@ -11,13 +11,13 @@ use of_action::write_actions;
 use of_match::write_match;
 use std::alloc::Global;
 
-/// The digits of actions, and a dash where there are none.
-fn actions_text(alloc: Global, actions: &Actions) -> Result<String, OutOfMemory>
-    ensures { IfOk result (λ text. string_bytes text ≡ actions_text actions.now) }
+/// The digits of the bytes of actions, and a dash where there are none.
+fn actions_text(alloc: Global, bytes: &[u8]) -> Result<String, OutOfMemory>
+    ensures { IfOk result (λ text. string_bytes text ≡ actions_text bytes.now) }
 {
-    match actions.items() {
+    match bytes {
         [] => Ok(String::from_str(alloc, "-")?),
-        [_, ..] => digits(alloc, &write_actions(alloc, actions)?),
+        [_, ..] => digits(alloc, bytes),
     }
 }
 
@@ -30,7 +30,7 @@ pub fn table_line(alloc: Global, session: u64, rule: &Rule) -> Result<String, Ou
 {
     let priority = rule.priority;
     let matching = digits(alloc, &write_match(&rule.matching))?;
-    let actions = actions_text(alloc, &rule.actions)?;
+    let actions = actions_text(alloc, &write_actions(alloc, &rule.actions)?)?;
     let line = format!(in alloc; "table {session} {priority} {matching} {actions}\n")?;
     Ok(line)
 }
