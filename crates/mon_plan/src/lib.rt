@@ -8,7 +8,8 @@
 //! the whole table, and is mostly small, so a plan takes the time of as many small searches as there are rules, and the
 //! memory of the certificates and of one search. A job owns its view and its slice, which are copied for it.
 //!
-//! The files that tables and certificates come from and go to, and the generator of tables, are named here again.
+//! The files that tables and certificates come from and go to, and the generator of tables, are named here again: this is
+//! the one door to them, with their fault.
 #![tactic(auto)]
 
 mod check;
