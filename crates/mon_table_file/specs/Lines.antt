@@ -1,5 +1,5 @@
 -- The lines of a table file. Words are parted by one space, and a line feed ends each line.
-use Rattle.std.specs.Prelude.{◌≡◌, ℕ, ◌<◌, ◌≤◌, ◌^◌, Bool, nat_le, ◌&&◌, is_ok, true, List, [], ◌∷◌, ◌++◌, length, codes, decimal, Result, Ok, Err}
+use Rattle.std.specs.Prelude.{◌≡◌, ℕ, ◌<◌, ◌≤◌, ◌^◌, Bool, nat_le, ◌&&◌, is_ok, true, List, [], ◌++◌, length, codes, decimal, Result, Ok, Err}
 use Rattle.std.specs.List.{flat_map}
 use Rattle.std.specs.Int.{w64, to_be_bytes}
 use Rattle.mon_text.specs.Hex.{hex, AllBytes, AreBytes}
