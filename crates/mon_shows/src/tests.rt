@@ -123,17 +123,6 @@ fn views_show_what_was_worked_out(rt: HostRuntime) -> Result<(), Fail> {
                 ..there
             }),
         ),
-        (
-            by_2(102),
-            false,
-            Some(Seen {
-                header: Header {
-                    dl_vlan: 102,
-                    ..PACKET
-                },
-                ..there
-            }),
-        ),
         (Emission::Port(3, PACKET), false, None),
         (Emission::Controller(second), true, seen(1, 2, 1)),
         (Emission::Miss(second), true, seen(1, 2, 0)),

@@ -43,14 +43,13 @@ fn exact() -> Match {
     Match::normal(0, PACKET)
 }
 
+/// All packets that come in at this port.
+fn from_port(wildcards: u32, in_port: u16) -> Match {
+    Match::normal(wildcards, Header { in_port, ..BLANK })
+}
+
 fn port_1() -> Match {
-    Match::normal(
-        0x003820fe,
-        Header {
-            in_port: 1,
-            ..BLANK
-        },
-    )
+    from_port(0x003820fe, 1)
 }
 
 /// IPv4 with this source and this destination, of which some low bits are ignored.
