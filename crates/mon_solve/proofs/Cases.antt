@@ -1,6 +1,6 @@
 -- What is found in the cases of a job so far.
 use Rattle.std.proofs.Common.{◌≡◌, ◌≢◌, ℕ, ◌+◌, ◌<◌, ◌≤◌, Bool, true, false, ◌&&◌, refl, sym, ap, ◌∙◌, subst, List, [], ◌∷◌, ◌++◌, length, take, drop, get_or, suc, arith, Option, Some, None, option_map}
-use Rattle.std.specs.Prelude.{All}
+use Rattle.std.specs.Prelude.{All, min}
 use Rattle.std.specs.Bool.{OnTrue}
 use Rattle.std.proofs.lemmas.List.{take_all, take_more, at_drop_more}
 use Rattle.std.proofs.lemmas.List.Elements.{All-more, All-contains}
@@ -11,7 +11,7 @@ use Rattle.mon_shows.specs.Separation.{separates}
 use Rattle.mon_job.specs.Jobs.{Task}
 use Rattle.mon_encode.specs.declared.case.Case.{Case}
 use Rattle.mon_encode.specs.Cases.{cases_of, IsCaseOf, BelongsTo}
-use Rattle.mon_solve.specs.Answers.{HasNone, IsFound, AskedAtLeast}
+use Rattle.mon_solve.specs.Answers.{HasNone, IsFound, AskedAtLeast, counted}
 use Rattle.mon_solve.specs.declared.found.Found.{Found}
 use Rattle.mon_solve.specs.declared.found.Found.TheVariants as found
 use Rattle.mon_solve.specs.Accepting.{is_refuted, are_refuted, NothingSeparates}
@@ -49,10 +49,13 @@ none_given None f = refl
 none_given (Some n) f = absurd (f n refl)
 
 -- one ask more
-pub asked_more : (least : ℕ) (before now next : Option ℕ) → AskedAtLeast least before now → next ≡ option_map (λ n. suc n) now → AskedAtLeast (least + 1) before next
+more : (least b n last : ℕ) → min (b + least) last ≤ n → min (b + (least + 1)) last ≤ min (n + 1) last
+more least b n last a = omega (arith, a)
+
+pub asked_more : (least : ℕ) (before now next : Option ℕ) → AskedAtLeast least before now → next ≡ option_map (λ n. counted (n + 1)) now → AskedAtLeast (least + 1) before next
 asked_more least None now next a e = tt
 asked_more least (Some b) None next a e = absurd a
-asked_more least (Some b) (Some n) next a e = subst (λ o. AskedAtLeast (least + 1) (Some b) o) (sym e) (omega (arith, a))
+asked_more least (Some b) (Some n) next a e = subst (λ o. AskedAtLeast (least + 1) (Some b) o) (sym e) (more least b n _ a)
 
 -- logs that refute cases, read from the front
 

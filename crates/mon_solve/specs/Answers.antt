@@ -1,5 +1,5 @@
 -- What is answered to a job, and what was asked for it.
-use Rattle.std.specs.Prelude.{◌≡◌, ℕ, ◌+◌, ◌≤◌, true, false, length, Option, Some, None}
+use Rattle.std.specs.Prelude.{◌≡◌, ℕ, ◌+◌, ◌-◌, ◌^◌, ◌≤◌, min, true, false, length, Option, Some, None}
 use Rattle.std.specs.List.{slice_get}
 use Rattle.mon_header.specs.declared.header.Header.{Header}
 use Rattle.mon_outcome.specs.declared.emission.Emission.{Emission}
@@ -21,19 +21,27 @@ seen_in Indistinguishable = None
 seen_in (Skipped seen) = Some seen
 seen_in NoMemory = None
 
+-- a count of asks, but for those that a u64 has no number for: it stands still at its last value
+abbrev pub counted : ℕ → ℕ
+counted asks = min asks (2 ^ 64 - 1)
+
 -- a stop that tells how often it was asked was asked that often, at least
 abbrev pub AskedAtLeast : ℕ → Option ℕ → Option ℕ → Type 0
 AskedAtLeast least None now = Unit {0}
 AskedAtLeast least (Some before) None = ⊥
-AskedAtLeast least (Some before) (Some now) = before + least ≤ now
+AskedAtLeast least (Some before) (Some now) = counted (before + least) ≤ now
 
--- a stop was asked at least as often as there are cases up to one to which the header and the emission belong
-pub record AskedUpTo (j : Task) (h : Header) (e : Emission) (before now : Option ℕ) : Type 0 where
+-- a stop was asked for a case: at least as often as there are cases up to it
+pub record AskedForCase (j : Task) (c : Case) (before now : Option ℕ) : Type 0 where
   pub place : ℕ
-  pub case : Case
-  pub there : slice_get (cases_of j) place ≡ Some case
-  pub belongs : BelongsTo j case h e
+  pub there : slice_get (cases_of j) place ≡ Some c
   pub asked : AskedAtLeast (place + 1) before now
+
+-- a stop was asked for a case to which the header and the emission belong
+pub record AskedUpTo (j : Task) (h : Header) (e : Emission) (before now : Option ℕ) : Type 0 where
+  pub case : Case
+  pub asked : AskedForCase j case before now
+  pub belongs : BelongsTo j case h e
 
 -- how often a stop was asked for an answer, at least: as often as there are cases up to one to which the probe belongs, or
 -- cases at all where there is none

@@ -1,11 +1,11 @@
 //! Verdicts.
 
-ghost use Rattle.std.specs.Prelude.{◌≡◌, None};
+ghost use Rattle.std.specs.Prelude.{◌≡◌, ℕ, Option, None};
 ghost use Rattle.std.specs.Arc.{arc_value};
 ghost use Rattle.mon_job.specs.Verdicts.{IsTrueOf};
 ghost use Rattle.mon_solve.specs.Answers.{AskedFor, seen_in};
 
-use crate::found::{Found, find};
+use crate::found::{Found, find_asked};
 use crate::stop::Stop;
 use mon_encode::cases;
 use mon_job::{Job, Says, Verdict};
@@ -14,11 +14,13 @@ use std::sync::Arc;
 
 /// What is true of the job.
 fn answer<S: Stop>(alloc: Global, job: &Job, stop: &mut S) -> Says
+    ghost before: { Option ℕ }
+    requires before { S.asked stop.old ≡ before }
     requires unshown { S.shown stop.old ≡ None }
     requires floor { S.floor stop.old ≡ job.now.version }
     ensures truth { IsTrueOf job.now result }
     ensures shown { S.shown stop.new ≡ seen_in result }
-    ensures asked { AskedFor job.now result (S.asked stop.old) (S.asked stop.new) }
+    ensures asked { AskedFor job.now result before (S.asked stop.new) }
 {
     let Ok(cases) = cases(alloc, job) else {
         return Says::NoMemory;
@@ -27,7 +29,7 @@ fn answer<S: Stop>(alloc: Global, job: &Job, stop: &mut S) -> Says
         if let Some(seen) = stop.ask() {
             return Says::Skipped { seen };
         }
-        match find(alloc, job, case) {
+        match find_asked(alloc, job, case, stop) {
             Ok(Found::Probe(h, e)) => return Says::Probe(h, e),
             Ok(Found::Nothing(_)) => {}
             Err(_) => return Says::NoMemory,
@@ -36,9 +38,10 @@ fn answer<S: Stop>(alloc: Global, job: &Job, stop: &mut S) -> Says
     Says::Indistinguishable
 }
 
-/// The verdict on the job. The stop is asked before each case is searched; of this the clauses say that it is asked at
-/// least as often as there are cases up to one to which the probe belongs, or cases at all where there is no probe. The
-/// job is skipped where the stop's last answer is a version, and only there. Where there is no memory, that is the verdict.
+/// The verdict on the job. The stop is asked before each case is searched, since the search asks that of its caller: so it
+/// is asked at least as often as there are cases up to one to which the probe belongs, or cases at all where there is no
+/// probe. The job is skipped where the stop's last answer is a version, and only there. Where there is no memory, that is
+/// the verdict.
 pub fn decide<S: Stop>(alloc: Global, job: Arc<Job>, stop: &mut S) -> Verdict
     requires unshown { S.shown stop.old ≡ None }
     requires floor { S.floor stop.old ≡ (arc_value job).version }

@@ -1,9 +1,10 @@
 //! One case of a job.
 
-ghost use Rattle.std.specs.Prelude.{IfOk};
+ghost use Rattle.std.specs.Prelude.{ℕ, Option, IfOk};
 ghost use Rattle.mon_encode.specs.Cases.{IsCaseOf};
-ghost use Rattle.mon_solve.specs.Answers.{IsFound};
+ghost use Rattle.mon_solve.specs.Answers.{AskedForCase, IsFound};
 
+use crate::stop::Stop;
 use mon_encode::{Case, decode_model, encode};
 use mon_header::Header;
 use mon_job::Job;
@@ -36,4 +37,19 @@ pub(crate) fn find(alloc: Global, job: &Job, case: &Case) -> Result<Found, OutOf
         }
         Outcome::Refuted(log) => Ok(Found::Nothing(log)),
     }
+}
+
+/// Searches one case of the job, for which the stop was asked: since its count was `before`, as often as there are cases
+/// up to this one. Whoever decides a job searches by this call alone.
+pub(crate) fn find_asked<S: Stop>(
+    alloc: Global,
+    job: &Job,
+    case: &Case,
+    _stop: &S,
+) -> Result<Found, OutOfMemory>
+    ghost before: { Option ℕ }
+    requires { AskedForCase job.now case.now before (S.asked _stop.now) }
+    ensures { IfOk result (IsFound job.now case.now) }
+{
+    find(alloc, job, case)
 }

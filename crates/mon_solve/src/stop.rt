@@ -1,6 +1,7 @@
 //! When a job may be given up.
 
-ghost use Rattle.std.specs.Prelude.{◌≡◌, ◌<◌, ℕ, suc, Option, None, option_map, MatchOption};
+ghost use Rattle.std.specs.Prelude.{◌≡◌, ◌<◌, ◌+◌, ℕ, Option, None, option_map, MatchOption};
+ghost use Rattle.mon_solve.specs.Answers.{counted};
 
 /// Whether a job may be given up, since it was overtaken.
 pub trait Stop {
@@ -10,14 +11,14 @@ pub trait Stop {
     /// What the last `ask` gave, None at first.
     ghost shown: { Self → Option ℕ };
 
-    /// How often it was asked, where it tells that.
+    /// How often it was asked, where it tells that. The count stands still at 2^64 - 1.
     ghost asked: { Self → Option ℕ };
 
     /// A version above the floor, which was seen, or none.
     fn ask(&mut self) -> Option<u64>
         ensures same { floor self.new ≡ floor self.old }
         ensures told { shown self.new ≡ result }
-        ensures counted { asked self.new ≡ option_map (λ n. suc n) (asked self.old) }
+        ensures counted { asked self.new ≡ option_map (λ n. counted (n + 1)) (asked self.old) }
         ensures above { MatchOption result (Unit {0}) (λ seen. floor self.old < seen) };
 }
 

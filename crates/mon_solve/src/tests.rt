@@ -1,15 +1,13 @@
 //! Rules that are watched in tables that were worked out by hand.
 
-ghost use Rattle.std.specs.Prelude.{◌≡◌, ◌<◌, ◌^◌, ◌+◌, None, IfOk, length};
+ghost use Rattle.std.specs.Prelude.{◌≡◌, ◌<◌, ◌^◌, ◌+◌, Some, None, IfOk, length};
 ghost use Rattle.std.specs.Arc.{arc_value};
 
 use crate::{Certificate, Never, Stop, accept, certificate, decide};
 use mon_header::{Action, Actions, Header, Match, OutOfMemory};
 use mon_job::{Job, Says};
 use mon_list::Items;
-use mon_outcome::Emission;
-use mon_refute::Logs;
-use mon_shows::{Near, Target, View, separates};
+use mon_shows::{Near, Target, View};
 use mon_table::{Rule, Table};
 use mon_topo::Vids;
 use std::alloc::Global;
@@ -94,16 +92,6 @@ fn wide(alloc: Global) -> Result<Rule, OutOfMemory> {
     rule(alloc, 0x003820ef, 0, 0, 50)
 }
 
-/// From 10.0.0.0/8, at priority 100.
-fn from_8(alloc: Global) -> Result<Rule, OutOfMemory> {
-    rule(alloc, 0x003818ef, 0x0a000000, 0, 100)
-}
-
-/// To 10.0.0.0/8, at priority 100.
-fn to_8(alloc: Global) -> Result<Rule, OutOfMemory> {
-    rule(alloc, 0x003620ef, 0, 0x0a000000, 100)
-}
-
 /// The job that watches a rule beside another one, at the version 7.
 fn watch(alloc: Global, watched: Rule, other: Rule) -> Result<Job, OutOfMemory>
     ensures { IfOk result (λ job. job.version ≡ 7) }
@@ -137,39 +125,19 @@ fn unseen(alloc: Global) -> Result<Job, OutOfMemory>
     watch(alloc, narrow(alloc)?, wide(alloc)?)
 }
 
-/// The job of a rule that overlaps another one of its priority.
-fn tied(alloc: Global) -> Result<Job, OutOfMemory>
-    ensures { IfOk result (λ job. job.version ≡ 7) }
-{
-    watch(alloc, from_8(alloc)?, to_8(alloc)?)
+/// The job of a rule from 10.0.0.0/8 that overlaps one to 10.0.0.0/8 of its priority.
+fn tied(alloc: Global) -> Result<Job, OutOfMemory> {
+    let from = rule(alloc, 0x003818ef, 0x0a000000, 0, 100)?;
+    let to = rule(alloc, 0x003620ef, 0, 0x0a000000, 100)?;
+    watch(alloc, from, to)
 }
 
-/// A stop that gives the next version at each ask.
-#[derive(Drop)]
-struct Overtaken {
-    floor: u64,
-    shown: Option<u64>,
-}
-
-impl Stop for Overtaken {
-    ghost floor = { λ s. s.floor };
-
-    ghost shown = { λ s. s.shown };
-
-    ghost asked = { λ _. None };
-
-    fn ask(&mut self) -> Option<u64> {
-        self.shown = self.floor.checked_add(1);
-        self.shown
-    }
-}
-
-/// A stop that counts how often it is asked, and from one ask on gives the next version.
+/// A stop that tells how often it was asked, and from one ask on gives the next version.
 #[derive(Drop)]
 struct Counting {
     floor: u64,
-    asks: u32,
-    first: u32,
+    asks: u64,
+    first: u64,
     shown: Option<u64>,
 }
 
@@ -178,7 +146,7 @@ impl Stop for Counting {
 
     ghost shown = { λ s. s.shown };
 
-    ghost asked = { λ _. None };
+    ghost asked = { λ s. Some s.asks };
 
     fn ask(&mut self) -> Option<u64> {
         self.asks = self.asks.saturating_add(1);
@@ -191,99 +159,74 @@ impl Stop for Counting {
     }
 }
 
+/// The kind of a certificate.
+fn kind_of(certificate: &Certificate) -> &'static str {
+    match certificate {
+        Certificate::Probe(..) => "probe",
+        Certificate::Nothing(_) => "none",
+        Certificate::Overlap => "overlap",
+    }
+}
+
+/// Whether the job's certificate is of this kind, and accepted.
+fn certifies(alloc: Global, job: &Job, kind: &str) -> Result<bool, OutOfMemory> {
+    let found = certificate(alloc, job)?;
+    let accepted = accept(alloc, job, &found)?;
+    Ok(accepted && kind_of(&found) == kind)
+}
+
 #[test]
-fn a_rule_that_is_seen_has_a_probe(rt: HostRuntime) -> Result<(), Fail> {
+fn certificates_of_each_kind(rt: HostRuntime) -> Result<(), Fail> {
     let alloc = rt.alloc();
-    let job = seen(alloc)?;
-    let found = certificate(alloc, &job)?;
-    let Certificate::Probe(h, e) = &found else {
-        return Err(Fail::new("no probe"));
-    };
-    assert!(rt; separates(&job.view, &job.table, &job.target, h, e));
-    assert!(rt; accept(alloc, &job, &found)?);
-    // No link leads from the ports 0 and 3.
-    let flipped = Header {
-        in_port: h.in_port ^ 1,
-        ..*h
-    };
-    assert!(rt; !accept(alloc, &job, &Certificate::Probe(flipped, *e))?);
-    assert!(rt; !accept(alloc, &job, &Certificate::Nothing(Logs::new(alloc)))?);
-    assert!(rt; !accept(alloc, &job, &Certificate::Overlap)?);
-    let job = Arc::new(alloc, job)?;
-    let verdict = decide(alloc, job, &mut Never { floor: 7 });
-    assert!(rt; verdict.job().number == 3 && matches!(verdict.says(), Says::Probe(_, _)));
+    assert!(rt; certifies(alloc, &seen(alloc)?, "probe")?);
+    assert!(rt; certifies(alloc, &unseen(alloc)?, "none")?);
+    assert!(rt; certifies(alloc, &tied(alloc)?, "overlap")?);
     Ok(())
 }
 
 #[test]
-fn a_rule_that_is_not_seen_has_refutations(rt: HostRuntime) -> Result<(), Fail> {
+fn a_certificate_of_another_job_is_refused(rt: HostRuntime) -> Result<(), Fail> {
     let alloc = rt.alloc();
-    let job = unseen(alloc)?;
-    let found = certificate(alloc, &job)?;
-    // Five classes, each at port 1 with one emission: what comes in at port 2 is not sent back there.
-    assert!(rt; matches!(&found, Certificate::Nothing(logs) if logs.items().len() == 5));
-    assert!(rt; accept(alloc, &job, &found)?);
-    assert!(rt; !accept(alloc, &seen(alloc)?, &found)?);
-    assert!(rt; !accept(alloc, &job, &Certificate::Overlap)?);
-    let job = Arc::new(alloc, job)?;
-    let verdict = decide(alloc, job, &mut Never { floor: 7 });
-    assert!(rt; matches!(verdict.says(), Says::Indistinguishable));
+    let other = certificate(alloc, &unseen(alloc)?)?;
+    assert!(rt; !accept(alloc, &seen(alloc)?, &other)?);
     Ok(())
 }
 
-#[test]
-fn a_tied_rule_has_an_overlap(rt: HostRuntime) -> Result<(), Fail> {
-    let alloc = rt.alloc();
-    let job = tied(alloc)?;
-    let found = certificate(alloc, &job)?;
-    assert!(rt; matches!(found, Certificate::Overlap));
-    assert!(rt; accept(alloc, &job, &found)?);
-    Ok(())
-}
-
-#[test]
-fn an_overtaken_job_is_skipped(rt: HostRuntime) -> Result<(), Fail> {
-    let alloc = rt.alloc();
-    let job = Arc::new(alloc, seen(alloc)?)?;
-    let mut stop = Overtaken {
-        floor: 7,
-        shown: None,
-    };
-    let verdict = decide(alloc, job, &mut stop);
-    assert!(rt; matches!(verdict.says(), Says::Skipped { seen: 8 }));
-    assert!(rt; stop.shown == Some(8));
-    Ok(())
-}
-
-#[test]
-fn a_job_is_skipped_at_a_later_case(rt: HostRuntime) -> Result<(), Fail> {
-    let alloc = rt.alloc();
-    // It has five cases, of which none has a probe: so there is a third ask.
-    let job = Arc::new(alloc, unseen(alloc)?)?;
+/// Whether the verdict on the job says this, where the stop gives a version from an ask on and was asked so often.
+fn decides(alloc: Global, job: Job, first: u64, says: &str, asks: u64) -> Result<bool, OutOfMemory>
+    requires { job.version ≡ 7 }
+{
     let mut stop = Counting {
         floor: 7,
         asks: 0,
-        first: 3,
+        first,
         shown: None,
     };
-    let verdict = decide(alloc, job, &mut stop);
-    assert!(rt; matches!(verdict.says(), Says::Skipped { seen: 8 }));
-    assert!(rt; stop.asks == 3);
-    Ok(())
+    let verdict = decide(alloc, Arc::new(alloc, job)?, &mut stop);
+    let said = match verdict.says() {
+        Says::Probe(..) => "probe",
+        Says::Indistinguishable => "indistinguishable",
+        Says::Skipped { .. } => "skipped",
+        Says::NoMemory => "no memory",
+    };
+    Ok(said == says && stop.asks == asks)
 }
 
 #[test]
 fn a_stop_is_asked_once_a_case(rt: HostRuntime) -> Result<(), Fail> {
     let alloc = rt.alloc();
-    let job = Arc::new(alloc, unseen(alloc)?)?;
-    let mut stop = Counting {
-        floor: 7,
-        asks: 0,
-        first: 6,
-        shown: None,
-    };
-    let verdict = decide(alloc, job, &mut stop);
-    assert!(rt; matches!(verdict.says(), Says::Indistinguishable));
-    assert!(rt; stop.asks == 5);
+    assert!(rt; decides(alloc, seen(alloc)?, 6, "probe", 1)?);
+    // Five classes, each at port 1 with one emission: what comes in at port 2 is not sent back there.
+    assert!(rt; decides(alloc, unseen(alloc)?, 6, "indistinguishable", 5)?);
+    assert!(rt; decides(alloc, unseen(alloc)?, 3, "skipped", 3)?);
+    Ok(())
+}
+
+#[test]
+fn a_job_that_nothing_overtakes_is_decided(rt: HostRuntime) -> Result<(), Fail> {
+    let alloc = rt.alloc();
+    let job = Arc::new(alloc, seen(alloc)?)?;
+    let verdict = decide(alloc, job, &mut Never { floor: 7 });
+    assert!(rt; matches!(verdict.says(), Says::Probe(..)));
     Ok(())
 }

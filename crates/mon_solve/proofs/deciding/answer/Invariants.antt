@@ -7,6 +7,9 @@ abbrev pub invariant-loop-case : goal.invariant-loop-case
 invariant-loop-case g l = record {
   floor : g.S.Stop.floor l.stop ≡ l.job.version;
   shown : g.S.Stop.shown l.stop ≡ None;
-  asked : AskedAtLeast l.case-index (g.S.Stop.asked l.fn.stop) (g.S.Stop.asked l.stop);
+  asked : AskedAtLeast l.case-index g.before (g.S.Stop.asked l.stop);
   none : All (HasNone l.job) (take l.case-index l.case-items);
 }
+
+abbrev pub ghost-find_asked : goal.ghost-find_asked
+ghost-find_asked g a = g.before
