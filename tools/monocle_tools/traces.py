@@ -220,7 +220,8 @@ class Story:
     """Tells the lines of a run in words. It keeps what later lines speak of: the edits that went to each switch, which
     are the FLOW_MODs of others than monocle itself, and whose jobs are whose."""
 
-    def __init__(self) -> None:
+    def __init__(self, short: bool = False) -> None:
+        self.short = short
         self.edits: Dict[int, List[str]] = {}
         self.jobs: Dict[int, Tuple[int, int]] = {}
         self.serials: Dict[int, int] = {}
@@ -229,7 +230,7 @@ class Story:
         if edit == 0:
             return "the watched rule"
         edits = self.edits.get(session, [])
-        return f"edit {edit}" + (f" ({edits[edit - 1]})" if edit <= len(edits) else "")
+        return f"edit {edit}" + (f" ({edits[edit - 1]})" if edit <= len(edits) and not self.short else "")
 
     def job_name(self, job: int) -> str:
         if job not in self.jobs:
