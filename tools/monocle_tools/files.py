@@ -18,6 +18,7 @@ class BadInput(Exception):
     """Input that is not understood: its file, the number and text of its line where it has lines, and why."""
 
     def __init__(self, name: str, why: str, number: int = 0, text: str = "") -> None:
+        name = "standard input" if name == "-" else name
         place = f"{name}:{number}" if number else name
         super().__init__(f"{place}: {why}" + (f": {shortened(text)}" if number else ""))
 

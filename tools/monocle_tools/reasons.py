@@ -6,8 +6,8 @@ explanation: it is found by running some packets through the table, and it prove
 
 from __future__ import annotations
 
-from itertools import islice
-from typing import Iterator, List, NamedTuple, Optional, Tuple
+from itertools import islice, product
+from typing import AbstractSet, Iterator, List, NamedTuple, Optional, Sequence, Tuple
 
 from .actions import IN_PORT, OUTPUT, Emission, Sent, may, must, run
 from .files import BadInput, Certificate, Link, Probe, Refuted, Rule, Table
@@ -15,8 +15,9 @@ from .headers import (DROP_MARK, ICMP, IPV4, TCP, UDP, WHOLE, Header, Match, cla
                       match_words, packet_words)  # fmt: skip
 
 SHOWN, TIED, NOT_SHOWN = "shown", "tied", "not shown"
-# how many packets are tried for a rule, and the Ethernet types and IP protocols that they have
+# how many packets are tried for a rule, what their free bits are filled with, and their Ethernet types and IP protocols
 TRIALS = 24
+FILLS = (0, WHOLE, int("5a" * 33, 16))
 KINDS = ((IPV4, TCP), (IPV4, UDP), (IPV4, ICMP), (IPV4, 47), (0x88B5, 0))
 BY_LOOKING = "Found by looking at some packets, as an explanation and not as a proof:"
 
@@ -40,22 +41,32 @@ class Explainer:
     def __init__(self, table: Table) -> None:
         self.table, self.view, self.rules = table, table.view, table.rules
         self.ports = [link.port for link in table.view.links]
+        self.ranks = [rule.rank for rule in table.rules]
+        self.bits = [(rule.match.value, rule.match.mask) for rule in table.rules]
 
     def name(self, place: int) -> str:
         return f"rule {place} ({self.rules[place].words()})"
 
     # what a table does with a packet
 
-    def winners(self, header: Header, sure: Optional[int] = None, without: Optional[int] = None) -> Tuple[List[int], bool]:
-        """The rules that may take a packet, and whether none may. Unsure rules hide nothing, but for the one at `sure`."""
+    def overlapping(self, place: int) -> List[int]:
+        """The other rules that take some packet of this one, in table order."""
+        value, mask = self.bits[place]
+        return [one for one, (v, m) in enumerate(self.bits) if not (v ^ value) & m & mask and one != place]
+
+    def winners(self, header: Header, sure: Optional[int] = None, without: Optional[int] = None,
+                among: Optional[Sequence[int]] = None) -> Tuple[List[int], bool]:  # fmt: skip
+        """The rules that may take a packet, and whether none may. Unsure rules hide nothing, but for the one at `sure`;
+        `among` may name, in table order, all rules that come into question."""
         number, best, found = header.number(), -1, []
-        for place, rule in enumerate(self.rules):
-            if rule.rank < best:
+        for place in range(len(self.rules)) if among is None else among:
+            if self.ranks[place] < best:
                 break
-            if place != without and rule.match.takes(number):
+            value, mask = self.bits[place]
+            if not (number ^ value) & mask and place != without:
                 found.append(place)
-                if not rule.unsure or place == sure:
-                    best = rule.rank
+                if not self.rules[place].unsure or place == sure:
+                    best = self.ranks[place]
         return found, best < 0
 
     def uncraftable(self, h: Header) -> Optional[str]:
@@ -157,8 +168,7 @@ class Explainer:
 
     def why_tied(self, place: int) -> Iterator[str]:
         rule = self.rules[place]
-        ties = [other for other, one in enumerate(self.rules)
-                if other != place and one.rank == rule.rank and one.match.overlaps(rule.match)]  # fmt: skip
+        ties = [other for other in self.overlapping(place) if self.ranks[other] == rule.rank]
         if not ties:
             yield "But no rule of the same rank overlaps it: let `monocle check` judge the certificate."
             return
@@ -198,77 +208,70 @@ class Explainer:
     def trials(self, place: int, below: List[int]) -> Iterator[Header]:
         """Packets that a rule takes and that can be probes, some of them such as the rules below take."""
         match = self.rules[place].match
+        free = frozenset(name for name in Header._fields if not match.compared(name))
+        ports = self.ports if "in_port" in free else [match.field("in_port") or 0]
         donors = [Match(0, 0)] + [self.rules[one].match for one in below[:16]]
-        fills = (0, WHOLE, int("5a" * 33, 16))
-        for fill in fills:
-            for donor in donors:
-                for kind, protocol in KINDS:
-                    for port in self.ports:
-                        fixed = Match(match.value | donor.value & ~match.mask, match.mask | donor.mask)
-                        header = self.mended(fixed, match, fill, port, kind, protocol)
-                        if match.takes(header.number()) and not self.uncraftable(header):
-                            yield header
+        fixed = [Match(match.value | donor.value & ~match.mask, match.mask | donor.mask) for donor in donors]
+        tried = set()
+        given = match.field("dl_type") or 0x88B5, match.field("nw_proto") or 0
+        for kind, fill, both in product([*KINDS, given], FILLS, fixed):
+            if not self.is_of(both, *kind):
+                continue
+            base = header_of(both.value | fill & ~both.mask)._replace(dl_type=kind[0], nw_proto=kind[1])
+            for port in ports:
+                header = self.mended(base, free, port)
+                if header not in tried and match.takes(header.number()) and not self.uncraftable(header):
+                    yield header
+                tried.add(header)
 
-    def mended(self, fixed: Match, match: Match, fill: int, port: int, kind: int, protocol: int) -> Header:
-        """A header with the bits that are fixed, the others filled up so that it can be a probe where that is possible."""
-        h = header_of(fixed.value | fill & ~fixed.mask)
-        free = {name: not match.compared(name) for name in Header._fields}
-        if free["in_port"]:
-            h = h._replace(in_port=port)
-        if free["dl_vlan"]:
-            h = h._replace(dl_vlan=self.view.tag)
-        if free["dl_src"]:
-            h = h._replace(dl_src=h.dl_src & ~(1 << 40) | 2 << 40)
-        if not fixed.compared("dl_type"):
-            h = h._replace(dl_type=kind)
-        if not fixed.compared("nw_proto"):
-            h = h._replace(nw_proto=protocol)
-        if free["dl_vlan_pcp"]:
-            h = h._replace(dl_vlan_pcp=h.dl_vlan_pcp & 7)
-        absent = {name: 0 for name in Header._fields[6:] if free[name]}
+    @staticmethod
+    def is_of(match: Match, kind: int, protocol: int) -> bool:
+        """The match leaves room for packets of this Ethernet type and IP protocol."""
+        return match.field("dl_type") in (None, kind) and match.field("nw_proto") in (None, protocol)
+
+    def mended(self, h: Header, free: AbstractSet[str], port: int) -> Header:
+        """A header whose free fields are changed so that it can be a probe that comes in by this port."""
+        changes = {"in_port": port, "dl_vlan": self.view.tag, "dl_src": h.dl_src & ~(1 << 40) | 2 << 40,
+                   "dl_vlan_pcp": h.dl_vlan_pcp & 7, "nw_tos": h.nw_tos & 0xFC}  # fmt: skip
         if h.dl_type != IPV4:
-            return h._replace(**absent)
-        h = h._replace(nw_tos=h.nw_tos & 0xFC)
-        if h.nw_proto in (TCP, UDP):
-            return h
-        kept = 0xFF if h.nw_proto == ICMP else 0
-        return h._replace(**{name: getattr(h, name) & kept for name in ("tp_src", "tp_dst") if free[name]})
+            changes.update(dict.fromkeys(Header._fields[6:], 0))
+        elif h.nw_proto not in (TCP, UDP):
+            kept = 0xFF if h.nw_proto == ICMP else 0
+            changes.update(tp_src=h.tp_src & kept, tp_dst=h.tp_dst & kept)
+        return h._replace(**{name: value for name, value in changes.items() if name in free})
 
     def looked(self, place: int) -> str:
         """What keeps a rule from being seen, by trying packets."""
-        rule = self.rules[place]
-        overlapping = [one for one, other in enumerate(self.rules) if one != place and other.match.overlaps(rule.match)]
-        above = [one for one in overlapping if self.rules[one].rank > rule.rank]
-        wider = [one for one in above if self.rules[one].match.covers(rule.match) and not self.rules[one].unsure]
+        rule, overlapping = self.rules[place], self.overlapping(place)
+        wider = [one for one in overlapping if self.ranks[one] > rule.rank and not self.rules[one].unsure
+                 and self.rules[one].match.covers(rule.match)]  # fmt: skip
         if wider:
             return f"{self.name(wider[0])} stands above it and takes all that it would take"
-        below = [one for one in overlapping if self.rules[one].rank < rule.rank]
+        among = sorted(overlapping + [place])
         found: "dict[str, None]" = {}
         hidden: "dict[int, None]" = {}
-        tried = 0
-        for header in islice(self.trials(place, below), TRIALS):
-            tried += 1
-            taking, _ = self.winners(header, sure=place)
-            if taking != [place]:
-                hidden.update((one, None) for one in taking if one != place)
-                continue
-            found.update((reason, None) for reason in self.unseen(place, header))
-        if not tried:
+        trials = list(islice(self.trials(place, [one for one in overlapping if one > place]), TRIALS))
+        for header in trials:
+            taking, _ = self.winners(header, sure=place, among=among)
+            if taking == [place]:
+                found.update((reason, None) for reason in self.unseen(place, header, among))
+            hidden.update((one, None) for one in taking if one != place)
+        if not trials:
             return self.no_trial(rule)
         said = [f"rules above take its packets, such as {listed([self.name(one) for one in hidden], 2)}"] if hidden else []
         return listed(list(found) + said, 3)
 
-    def unseen(self, place: int, header: Header) -> Iterator[str]:
+    def unseen(self, place: int, header: Header, among: List[int]) -> Iterator[str]:
         """Why this packet, which the rule takes, doesn't show it."""
         sent, _ = run(self.rules[place].actions, header)
         if not sent:
             yield f"it sends back by port {header.in_port} alone, where the packet came in, and so nowhere"
+        others, _ = self.winners(header, without=place, among=among)
         for one in sent:
             why = self.uncaught(one)
             if why:
                 yield why
                 continue
-            others, _ = self.winners(header, without=place)
             same = [other for other in others if may(self.rules[other].actions, header, one.emission)]
             if not same:
                 yield f"but read again, {packet_words(header)} would show it: let `monocle check` judge the certificate"
@@ -279,8 +282,11 @@ class Explainer:
 
     def no_trial(self, rule: Rule) -> str:
         """Why no probe has a header that the rule takes."""
-        for kind, protocol in KINDS:
-            header = self.mended(rule.match, rule.match, 0, self.ports[0], kind, protocol)
+        free = frozenset(name for name in Header._fields if not rule.match.compared(name))
+        given = header_of(rule.match.value)
+        for kind, protocol in [*KINDS, (given.dl_type, given.nw_proto)]:
+            base = given._replace(dl_type=kind, nw_proto=protocol)
+            header = self.mended(base, free, given.in_port or self.ports[0])
             why = self.uncraftable(header) if rule.match.takes(header.number()) else None
             if why:
                 return f"no probe can be a packet that it takes: {why}"

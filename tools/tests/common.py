@@ -17,6 +17,8 @@ TOP = os.path.dirname(os.path.dirname(os.path.dirname(os.path.abspath(__file__))
 DATA = os.path.join(TOP, "tools", "data")
 DEMO = os.path.join(TOP, "demo")
 PROGRAM = os.path.join(TOP, "crates", "monocle", "out", "monocle")
+# said where a stored output of the demo differs
+REMADE = "where its input was changed on purpose, run tools/make-demo and look at what it writes"
 SETTINGS = os.path.join(DEMO, "three-switches.json")
 
 

@@ -3,7 +3,7 @@
 import os
 from typing import List
 
-from common import DATA, DEMO, Case, content, tool
+from common import DEMO, REMADE, Case, content, tool
 
 VIEW = """monocle-table 1
 switch 0000000000000001 100
@@ -55,7 +55,7 @@ class Explain(Case):
 
     def test_demo(self) -> None:
         ran = tool("explain", os.path.join(DEMO, "five-rules.table"), os.path.join(DEMO, "five-rules.certificates"))
-        self.assertEqual(ran, (0, content(DEMO, "five-rules.explained"), ""))
+        self.assertEqual(ran, (0, content(DEMO, "five-rules.explained"), ""), REMADE)
 
     def test_why_no_packet_shows_a_rule(self) -> None:
         for rules, place, why in HIDDEN:
@@ -83,7 +83,7 @@ class Explain(Case):
             "priority=50,ip actions=output:1"])  # fmt: skip
 
     def test_a_run(self) -> None:
-        ran = tool("explain", os.path.join(DATA, "one-update.output"))
+        ran = tool("explain", os.path.join(DEMO, "one-update.output"))
         update = "add priority=100,ip,nw_dst=10.0.0.0/24 actions=output:2"
         probe = ("udp,dl_vlan=100,dl_vlan_pcp=0,dl_src=02:00:00:00:00:01,dl_dst=02:00:00:00:00:02,nw_src=10.0.0.1,"
                  "nw_dst=10.0.0.2,nw_tos=0,tp_src=1,tp_dst=2")  # fmt: skip
@@ -146,6 +146,6 @@ class Explain(Case):
         said = tool("explain", self.table([good]), name).said
         self.assertEqual(said, f"explain: {name}: has 2 certificates for a table of 1 rules\n")
         said = tool("explain", "-", text='{"event":"silent","session":3}\n').said
-        self.assertEqual(said, 'explain: -:1: is no report line of its event: {"event":"silent","session":3}\n')
+        self.assertEqual(said, 'explain: standard input:1: is no report line of its event: {"event":"silent","session":3}\n')
         said = tool("explain", "-", text="4 put 0 switch 0100\n").said
-        self.assertEqual(said, "explain: -:1: is no frame to a switch or controller: 4 put 0 switch 0100\n")
+        self.assertEqual(said, "explain: standard input:1: is no frame to a switch or controller: 4 put 0 switch 0100\n")

@@ -34,8 +34,8 @@ class Pcap2Trace(Case):
         return ran.out[len(HEAD):].splitlines()
 
     def test_demo(self) -> None:
-        ran = tool("pcap2trace", os.path.join(DEMO, "flow-mods.pcap"))
-        self.assertEqual(ran, (0, content(DEMO, "flow-mods.trace"), ""))
+        ran = tool("pcap2trace", os.path.join(DEMO, "greeting.pcap"))
+        self.assertEqual(ran, (0, content(DEMO, "greeting.trace"), ""))
 
     def test_late_repeated_and_overlapping_segments(self) -> None:
         switch, controller = sides()
@@ -154,5 +154,5 @@ class Pcap2Trace(Case):
 
     @unittest.skipUnless(os.path.exists(PROGRAM), "monocle is not built")
     def test_monocle_reads_the_demo(self) -> None:
-        trace = self.file("trace", tool("pcap2trace", os.path.join(DEMO, "flow-mods.pcap")).out)
+        trace = self.file("trace", tool("pcap2trace", os.path.join(DEMO, "greeting.pcap"), "--tick-ms", "0").out)
         self.assertEqual(monocle("replay", SETTINGS, trace).status, 0)
