@@ -139,29 +139,41 @@ fn overlaps(alloc: Global, count: u32) -> Result<Certificates, OutOfMemory> {
     Ok(certificates)
 }
 
-/// What is said of one probe that leaves by port 2 as it came, for the table of the narrow rule alone.
-fn of_probe(alloc: Global, header: Header) -> Result<Checked, OutOfMemory> {
-    let mut table = Table::new(alloc);
-    let _ = table.put(narrow(alloc)?)?;
+/// One probe that leaves by port 2 as it came.
+fn probe(alloc: Global, header: Header) -> Result<Certificates, OutOfMemory> {
     let mut certificates = Items::new(alloc);
     certificates.push(Certificate::Probe(header, Emission::Port(2, header)))?;
-    check_table(alloc, &view(alloc)?, &table, &certificates)
+    Ok(certificates)
+}
+
+/// Whether this is said of certificates of the table.
+fn is_said(
+    alloc: Global,
+    table: &Table,
+    certificates: &Certificates,
+    said: Checked,
+) -> Result<bool, OutOfMemory> {
+    Ok(check_table(alloc, &view(alloc)?, table, certificates)? == said)
 }
 
 #[test]
 fn probes_are_refused_by_one_bit(rt: HostRuntime) -> Result<(), Fail> {
     let alloc = rt.alloc();
-    assert!(rt; of_probe(alloc, PROBE)? == Checked::Accepted(1));
+    let mut table = Table::new(alloc);
+    let _ = table.put(narrow(alloc)?)?;
+    assert!(rt; is_said(alloc, &table, &probe(alloc, PROBE)?, Checked::Accepted(1))?);
     let elsewhere = Header {
         nw_dst: 0x0a000101,
         ..PROBE
     };
-    assert!(rt; of_probe(alloc, elsewhere)? == Checked::Refused(0));
-    let other_tag = Header {
-        dl_vlan: 101,
-        ..PROBE
-    };
-    assert!(rt; of_probe(alloc, other_tag)? == Checked::Refused(0));
+    assert!(rt;
+        is_said(
+            alloc,
+            &table,
+            &probe(alloc, elsewhere)?,
+            Checked::Refused(0)
+        )?
+    );
     Ok(())
 }
 
@@ -170,51 +182,44 @@ fn jobs_watch_the_rules(rt: HostRuntime) -> Result<(), Fail> {
     let alloc = rt.alloc();
     let mut table = nested(alloc)?;
     let _ = table.put(rule(alloc, 0x003220ef, 0, 0x0a000100, 70)?)?;
-    assert!(rt; watches(alloc, &table, 0, 100, 2)?);
     assert!(rt; watches(alloc, &table, 1, 70, 2)?);
     assert!(rt; watches(alloc, &table, 2, 50, 3)?);
     Ok(())
 }
 
 #[test]
-fn ties_are_accepted_where_they_are(rt: HostRuntime) -> Result<(), Fail> {
+fn there_are_as_many_certificates_as_rules(rt: HostRuntime) -> Result<(), Fail> {
     let alloc = rt.alloc();
-    let view = view(alloc)?;
     let crossed = crossed(alloc)?;
-    let two = overlaps(alloc, 2)?;
-    assert!(rt; check_table(alloc, &view, &crossed, &two)? == Checked::Accepted(2));
-    assert!(rt; check_table(alloc, &view, &nested(alloc)?, &two)? == Checked::Refused(0));
-    assert!(rt; check_table(alloc, &view, &crossed, &overlaps(alloc, 1)?)? == Checked::Refused(1));
-    assert!(rt; check_table(alloc, &view, &crossed, &overlaps(alloc, 3)?)? == Checked::Refused(2));
-    let said = Summary {
-        rules: 2,
-        probes: 0,
-        indistinguishable: 0,
-        overlap: 2,
-    };
-    assert!(rt; Summary::of(&plan_table(alloc, &view, &crossed, 1)?) == said);
+    assert!(rt; is_said(alloc, &crossed, &overlaps(alloc, 1)?, Checked::Refused(1))?);
+    assert!(rt; is_said(alloc, &crossed, &overlaps(alloc, 2)?, Checked::Accepted(2))?);
+    assert!(rt; is_said(alloc, &crossed, &overlaps(alloc, 3)?, Checked::Refused(2))?);
     Ok(())
 }
 
+/// Whether the plan of the table is accepted, and has this summary.
+fn plans(alloc: Global, table: &Table, summary: Summary) -> Result<bool, OutOfMemory> {
+    let planned = plan_table(alloc, &view(alloc)?, table, 1)?;
+    let said = Checked::Accepted(summary.rules);
+    Ok(Summary::of(&planned) == summary && is_said(alloc, table, &planned, said)?)
+}
+
 #[test]
-fn a_rule_over_another_of_its_output_is_indistinguishable(rt: HostRuntime) -> Result<(), Fail> {
+fn plans_are_accepted(rt: HostRuntime) -> Result<(), Fail> {
     let alloc = rt.alloc();
-    let view = view(alloc)?;
-    let table = nested(alloc)?;
-    let planned = plan_table(alloc, &view, &table, 1)?;
-    let said = Summary {
+    let summary = Summary {
         rules: 2,
         probes: 1,
         indistinguishable: 1,
         overlap: 0,
     };
-    assert!(rt; Summary::of(&planned) == said);
-    assert!(rt;
-        matches!(
-            planned.items(),
-            [Certificate::Nothing(_), Certificate::Probe(..)]
-        )
-    );
-    assert!(rt; check_table(alloc, &view, &table, &planned)? == Checked::Accepted(2));
+    assert!(rt; plans(alloc, &nested(alloc)?, summary)?);
+    let summary = Summary {
+        rules: 2,
+        probes: 0,
+        indistinguishable: 0,
+        overlap: 2,
+    };
+    assert!(rt; plans(alloc, &crossed(alloc)?, summary)?);
     Ok(())
 }
