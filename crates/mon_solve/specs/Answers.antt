@@ -43,8 +43,8 @@ pub record AskedUpTo (j : Task) (h : Header) (e : Emission) (before now : Option
   pub asked : AskedForCase j case before now
   pub belongs : BelongsTo j case h e
 
--- how often a stop was asked for an answer, at least: as often as there are cases up to one to which the probe belongs, or
--- cases at all where there is none
+-- how often a stop was asked for an answer, at least: as often as there are cases up to one to which the probe belongs, and
+-- as there are cases at all where the answer is Indistinguishable
 abbrev pub AskedFor : Task → Says → Option ℕ → Option ℕ → Type 0
 AskedFor j (Probe h e) before now = AskedUpTo j h e before now
 AskedFor j Indistinguishable before now = AskedAtLeast (length (cases_of j)) before now

@@ -39,9 +39,9 @@ fn answer<S: Stop>(alloc: Global, job: &Job, stop: &mut S) -> Says
 }
 
 /// The verdict on the job. The stop is asked before each case is searched, since the search asks that of its caller: so it
-/// is asked at least as often as there are cases up to one to which the probe belongs, or cases at all where there is no
-/// probe. The job is skipped where the stop's last answer is a version, and only there. Where there is no memory, that is
-/// the verdict.
+/// is asked at least as often as there are cases up to one to which the probe belongs, and as there are cases at all where
+/// the answer is Indistinguishable. The job is skipped where the stop's last answer is a version, and only there. Where
+/// there is no memory, that is the verdict.
 pub fn decide<S: Stop>(alloc: Global, job: Arc<Job>, stop: &mut S) -> Verdict
     requires unshown { S.shown stop.old ≡ None }
     requires floor { S.floor stop.old ≡ (arc_value job).version }
