@@ -67,8 +67,8 @@ fn view(alloc: Global) -> Result<View, OutOfMemory> {
     })
 }
 
-/// A rule of this priority that sends what it matches to the ports, in order.
-fn rule(alloc: Global, wildcards: u32, priority: u16, ports: &[u16]) -> Result<Rule, OutOfMemory> {
+/// The actions that send to the ports, in order.
+fn sends(alloc: Global, ports: &[u16]) -> Result<Actions, OutOfMemory> {
     let mut actions = Actions::new(alloc);
     for port in ports {
         actions.push(Action::Output {
@@ -76,6 +76,12 @@ fn rule(alloc: Global, wildcards: u32, priority: u16, ports: &[u16]) -> Result<R
             max_len: 128,
         })?;
     }
+    Ok(actions)
+}
+
+/// A rule of this priority that sends what it matches to the ports.
+fn rule(alloc: Global, wildcards: u32, priority: u16, ports: &[u16]) -> Result<Rule, OutOfMemory> {
+    let actions = sends(alloc, ports)?;
     Ok(Rule {
         matching: Match::normal(wildcards, TO_5),
         priority,

@@ -279,14 +279,28 @@ fn packets_separate_as_worked_out(rt: HostRuntime) -> Result<(), Fail> {
     let (by_2, miss) = (Emission::Port(2, PACKET), Emission::Miss(PACKET));
     for (update, lower, miss_length, h, e, wanted) in [
         (Update::Put, false, 128, PACKET, by_2, true),
-        (Update::Put, false, 128, back, Emission::Port(2, back), false),
+        (
+            Update::Put,
+            false,
+            128,
+            back,
+            Emission::Port(2, back),
+            false,
+        ),
         (Update::Put, true, 128, PACKET, by_2, false),
         (Update::Watch, false, 128, PACKET, by_2, true),
         (Update::Cut, false, 128, PACKET, miss, true),
         (Update::Cut, false, 127, PACKET, miss, false),
         (Update::Cut, true, 128, PACKET, by_2, false),
         (Update::Narrowed, false, 128, PACKET, by_2, false),
-        (Update::Moved, false, 128, back, Emission::Port(1, back), true),
+        (
+            Update::Moved,
+            false,
+            128,
+            back,
+            Emission::Port(1, back),
+            true,
+        ),
         (Update::Dropping, false, 128, PACKET, by_2, false),
         (Update::Dropping, false, 128, PACKET, miss, false),
     ] {

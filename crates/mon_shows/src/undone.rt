@@ -72,7 +72,8 @@ impl<'a> Undone<'a> {
         if behind == 0 {
             return self.rule;
         }
-        self.table.rule((u64::from(self.next) + (behind - 1)) as u32)
+        self.table
+            .rule((u64::from(self.next) + (behind - 1)) as u32)
     }
 }
 
