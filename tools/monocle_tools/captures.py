@@ -106,7 +106,9 @@ def read_pcapng(name: str, content: bytes) -> Iterator[Packet]:
         elif kind == 1 and len(body) >= 8:
             interfaces.append(read_interface(body, order))
         elif kind in (2, 3):
-            raise BadInput(name, f"packet {number + 1}: is of a kind without a time or out of use; write it anew by editcap")
+            raise BadInput(
+                name, f"packet {number + 1}: is of a kind without a time or out of use; write it anew by editcap"
+            )
         elif kind == 6:
             number += 1
             yield enhanced_packet(name, number, order, body, interfaces)

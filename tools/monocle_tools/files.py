@@ -7,8 +7,8 @@ import os
 import re
 import sys
 import tempfile
-from dataclasses import dataclass, field
-from typing import Any, Callable, Dict, Iterable, Iterator, List, NamedTuple, NoReturn, Optional, Tuple, Union
+from dataclasses import dataclass
+from typing import Any, Callable, Dict, Iterator, List, NamedTuple, NoReturn, Optional, Set, Tuple, Union
 
 from .actions import Actions, Emission, actions_words, read_actions, write_actions
 from .headers import Header, Match, header_of, match_words, read_match
@@ -130,7 +130,9 @@ class Lines:
     def bytes_of(self, word: str, length: Optional[int], what: str) -> bytes:
         """Lower hexadecimal digits, of so many bytes."""
         if not re.fullmatch("([0-9a-f]{2})+", word) or length is not None and len(word) != 2 * length:
-            raise self.bad(f"{what} has {'' if length is None else f'{2 * length} '}lower hexadecimal digits, two a byte")
+            raise self.bad(
+                f"{what} has {'' if length is None else f'{2 * length} '}lower hexadecimal digits, two a byte"
+            )
         return bytes.fromhex(word)
 
 
@@ -220,7 +222,7 @@ def list_fault(value: Any, low: int, high: int, is_element: Callable[[Any], bool
 
 def link_fault(links: List[Any], switches: List[str]) -> Optional[str]:
     """The place of the first link that is none, or that takes a port or a switch twice."""
-    used = set()
+    used: Set[Tuple[str, int]] = set()
     for place, link in enumerate(links):
         fit = isinstance(link, list) and len(link) == 4 and link[0] in switches and link[2] in switches
         if not fit or not is_number(link[1], 1, 65280) or not is_number(link[3], 1, 65280) or link[0] == link[2]:
@@ -243,7 +245,8 @@ MEMBERS = ("alarm_ticks", "controller", "listen", "retry_ticks", "sessions", "sw
 def settings_fault(members: Dict[str, Any]) -> Optional[str]:
     """The first wrong member of settings, or element of one, as monocle names it."""
     for name in MEMBERS:
-        value, fault = members.get(name), None
+        value: Any = members.get(name)
+        fault: Optional[str] = None
         if name in NUMBERS:
             fault = None if is_number(value, *NUMBERS[name]) else ""
         elif name in ("controller", "listen"):
@@ -268,9 +271,9 @@ def read_settings(name: str) -> Settings:
         raise BadInput(name, f"is not JSON: {fault}") from None
     if not isinstance(members, dict):
         raise BadInput(name, "is no JSON object")
-    fault = settings_fault(members)
-    if fault is not None:
-        raise BadInput(name, f"member {fault} is wrong, missing or unknown")
+    wrong = settings_fault(members)
+    if wrong is not None:
+        raise BadInput(name, f"member {wrong} is wrong, missing or unknown")
     links = tuple((int(a, 16), p, int(b, 16), q) for a, p, b, q in members["links"])
     switches = tuple(int(switch, 16) for switch in members["switches"])
     return Settings(switches, links, tuple(members["tags"]), members["tick_ms"])
@@ -448,8 +451,9 @@ def read_certificates(name: str) -> Tuple[Certificate, ...]:
         if words[0] == "overlap" and len(words) == 2:
             found.append(Tied())
         elif words[0] == "none" and len(words) == 3:
-            found.append(Refuted(lines.number_of(words[2], 0, LARGEST, "the number of cases")))
-            skip_logs(lines, found[-1].cases)
+            cases = lines.number_of(words[2], 0, LARGEST, "the number of cases")
+            skip_logs(lines, cases)
+            found.append(Refuted(cases))
         elif words[0] == "probe" and len(words) > 3:
             found.append(Probe(read_header(lines, words[2]), read_emission(lines, words[3:])))
         else:

@@ -215,10 +215,14 @@ class FlowLine:
         for field in ("nw_src", "nw_dst", "nw_proto", "nw_tos"):
             kinds = (IPV4,) if field == "nw_tos" else (IPV4, ARP, RARP)
             if field in self.fields and kind not in kinds:
-                self.reasons.append(f"{self.names[field]} says nothing without {'ip' if len(kinds) == 1 else 'ip or arp'}")
+                self.reasons.append(
+                    f"{self.names[field]} says nothing without {'ip' if len(kinds) == 1 else 'ip or arp'}"
+                )
         for field in ("tp_src", "tp_dst"):
             if field in self.fields and (kind != IPV4 or protocol not in (ICMP, TCP, UDP)):
-                self.reasons.append(f"{self.names[field]}: OpenFlow 1.0 has ports of TCP and UDP, and types of ICMP, alone")
+                self.reasons.append(
+                    f"{self.names[field]}: OpenFlow 1.0 has ports of TCP and UDP, and types of ICMP, alone"
+                )
 
     def rule(self) -> Rule:
         return Rule(self.priority, match_of(self.fields, self.prefixes), tuple(self.actions), self.unsure)

@@ -133,11 +133,6 @@ def read_match(wire: bytes) -> Match:
     return match_of({name: header[name] for name in named}, prefixes)
 
 
-def exactly(header: Header) -> Match:
-    """The match that takes this header alone."""
-    return Match(header.number(), WHOLE)
-
-
 # headers that a probe can have
 
 

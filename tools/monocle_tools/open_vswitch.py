@@ -18,7 +18,9 @@ PATH = os.environ.get("PATH", "") + ":/usr/sbin:/sbin"
 
 def missing() -> List[str]:
     """What of Open vSwitch is not installed."""
-    return [program for program in PROGRAMS if not shutil.which(program, path=PATH)] + [SCHEMA] * (not os.path.exists(SCHEMA))
+    return [program for program in PROGRAMS if not shutil.which(program, path=PATH)] + [SCHEMA] * (
+        not os.path.exists(SCHEMA)
+    )
 
 
 class Switch:

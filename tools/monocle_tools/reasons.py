@@ -9,9 +9,10 @@ from __future__ import annotations
 from itertools import islice, product
 from typing import AbstractSet, Iterator, List, NamedTuple, Optional, Sequence, Tuple
 
-from .actions import IN_PORT, OUTPUT, Emission, Sent, may, must, run
+from .actions import ENQUEUE, OUTPUT, Emission, Sent, may, must, run
 from .files import BadInput, Certificate, Link, Probe, Refuted, Rule, Table
-from .headers import (DROP_MARK, ICMP, IPV4, TCP, UDP, WHOLE, Header, Match, class_fault, ethernet, exactly, header_of,
+
+from .headers import (DROP_MARK, ICMP, IPV4, TCP, UDP, WHOLE, Header, Match, class_fault, ethernet, header_of,
                       match_words, packet_words)  # fmt: skip
 
 SHOWN, TIED, NOT_SHOWN = "shown", "tied", "not shown"
@@ -85,7 +86,11 @@ class Explainer:
         """Why nobody sees what is sent, or None where somebody does."""
         emission, whole = sent
         if emission.door == "controller":
-            return None if whole else "it sends fewer than 128 bytes to the controller, which need not hold a whole probe"
+            return (
+                None
+                if whole
+                else "it sends fewer than 128 bytes to the controller, which need not hold a whole probe"
+            )
         if emission.door == "miss":
             return None if self.view.miss >= 128 else "the controller gets too little of a missed packet"
         link = self.view.link(emission.port)
@@ -117,7 +122,11 @@ class Explainer:
         """Where an emission goes, and how the packet was changed."""
         emission = sent.emission
         changes = [name for name in Header._fields if getattr(emission.header, name) != getattr(header, name)]
-        said = f", with {', '.join(f'{name}={self.value(name, emission.header)}' for name in changes)}" if changes else ""
+        said = (
+            f", with {', '.join(f'{name}={self.value(name, emission.header)}' for name in changes)}"
+            if changes
+            else ""
+        )
         if emission.door == "controller":
             return "to the controller" + said
         link = self.view.link(emission.port)
@@ -172,7 +181,9 @@ class Explainer:
         if not ties:
             yield "But no rule of the same rank overlaps it: let `monocle check` judge the certificate."
             return
-        both = Match(rule.match.value | self.rules[ties[0]].match.value, rule.match.mask | self.rules[ties[0]].match.mask)
+        both = Match(
+            rule.match.value | self.rules[ties[0]].match.value, rule.match.mask | self.rules[ties[0]].match.mask
+        )
         yield f"Of one rank with it, and overlapping it: {listed([self.name(other) for other in ties], 3)}."
         yield f"A packet such as {match_words(both) or 'any'} is taken by both, and the switch may choose."
 
@@ -194,7 +205,7 @@ class Explainer:
         for action in rule.actions:
             if action.unknown:
                 return f"its action {action.words()} leaves to the switch what is sent, so nothing is sure to be seen"
-        if not any(action.kind in (OUTPUT, 11) for action in rule.actions):
+        if not any(action.kind in (OUTPUT, ENQUEUE) for action in rule.actions):
             return "it changes what it takes and sends it nowhere"
         if in_port is not None and in_port not in self.ports:
             return f"it takes what comes in by port {in_port}, where no monitored switch is linked"
@@ -258,7 +269,11 @@ class Explainer:
             hidden.update((one, None) for one in taking if one != place)
         if not trials:
             return self.no_trial(rule)
-        said = [f"rules above take its packets, such as {listed([self.name(one) for one in hidden], 2)}"] if hidden else []
+        said = (
+            [f"rules above take its packets, such as {listed([self.name(one) for one in hidden], 2)}"]
+            if hidden
+            else []
+        )
         return listed(list(found) + said, 3)
 
     def unseen(self, place: int, header: Header, among: List[int]) -> Iterator[str]:

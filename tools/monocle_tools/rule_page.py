@@ -6,7 +6,7 @@ from typing import Iterator, Sequence
 from xml.sax.saxutils import escape
 
 from .files import Table
-from .pages import MARKS, attribute, mark, page, symbols
+from .pages import MARKS, mark, page, symbols
 from .reasons import NOT_SHOWN, SHOWN, TIED, Explanation
 
 CELL = 17

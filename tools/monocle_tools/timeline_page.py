@@ -73,7 +73,9 @@ class Timeline:
         self.barriers: Dict[int, Deque[int]] = {}
         self.waiting: Dict[Tuple[str, int, int], Deque[int]] = {}
 
-    def add(self, record: int, source: str, target: str, words: str, colour: str = GREY, shape: str = "arrow") -> None:
+    def add(
+        self, record: int, source: str, target: str, words: str, colour: str = GREY, shape: str = "arrow"
+    ) -> None:
         self.steps.append(Step(record, source, target, colour, shape, words))
 
     def arrive(self, record: int, side: str, frame: Frame) -> None:
@@ -207,7 +209,11 @@ def drawn_step(step: Step, y: int, clock: Clock) -> str:
     if step.source != step.target:
         tip = target - 7 if target > source else target + 7
         head = f"M{tip} {y - 4} L{target} {y} L{tip} {y + 4} Z"
-        dash = ' stroke-dasharray="6 4"' if step.shape == "dashed" else ' stroke-dasharray="2 4"' * (step.shape == "lost")
+        dash = (
+            ' stroke-dasharray="6 4"'
+            if step.shape == "dashed"
+            else ' stroke-dasharray="2 4"' * (step.shape == "lost")
+        )
         parts.append(f'<path d="M{source} {y} H{tip}" stroke="{step.colour}" stroke-width="2" fill="none"{dash}/>')
         parts.append(f'<path d="{head}" fill="{step.colour}"/>')
     elif step.shape == "dot":
@@ -215,7 +221,9 @@ def drawn_step(step: Step, y: int, clock: Clock) -> str:
     else:
         ink = "#000000" if step.shape == "bars" else "#ffffff"
         parts.append(f'<rect x="{source - 7}" y="{y - 7}" width="14" height="14" rx="2" fill="{step.colour}"/>')
-        parts.append(f'<path transform="translate({source} {y})" d="{SHAPES[step.shape]}" stroke="{ink}" stroke-width="2" fill="none"/>')
+        parts.append(
+            f'<path transform="translate({source} {y})" d="{SHAPES[step.shape]}" stroke="{ink}" stroke-width="2" fill="none"/>'
+        )
     shown = step.words if len(step.words) <= 92 else f"{step.words[:90]} .."
     return "".join(parts) + f'<text x="{WORDS}" y="{y + 4}">{escape(shown)}</text></g>'
 
@@ -254,7 +262,9 @@ def timeline_page(events: Sequence[NamedTuple], records: Optional[Sequence[Recor
         f"seen</label><label>{mark('not shown')} refused, not seen in time, or closed</label></p>",
     ]
     if records is None:
-        body.append("<p class='note'>Without the trace that went in, frames are drawn as they went out, and not as they came.</p>")
+        body.append(
+            "<p class='note'>Without the trace that went in, frames are drawn as they went out, and not as they came.</p>"
+        )
     for session in sorted(told.lines):
         body += [f"<section><h2>Session {session}</h2>", *drawn_timeline(told.lines[session])]
         rows = [row.rule.words() for row in told.rows if row.session == session]

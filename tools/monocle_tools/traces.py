@@ -41,6 +41,7 @@ def read_trace(name: str, text: str) -> List[Record]:
 
 def read_record(lines: Lines, words: List[str], number: int) -> Record:
     """One record of a trace."""
+
     def numbered(place: int, most: int = LARGEST) -> int:
         return lines.number_of(words[place], 0, most, "this word")
 
@@ -114,7 +115,8 @@ class Row(NamedTuple):
 
 def read_output(name: str, text: str) -> List[NamedTuple]:
     """The lines that `monocle replay` writes."""
-    lines, found = Lines(name, text), []
+    lines = Lines(name, text)
+    found: List[NamedTuple] = []
     for line in lines:
         words = line.split(" ")
         if words[0] == "table" and len(words) > 1:
@@ -152,7 +154,11 @@ def read_event(lines: Lines, words: List[str], line: str) -> NamedTuple:
         if words[3] not in ("probe", "indistinguishable", "skipped"):
             raise lines.bad("is no verdict")
         return Verdict(record, numbers[1], words[3])
-    return {"end": End, "offer": Offer, "probe": Sending}[kind](*numbers)
+    if kind == "end":
+        return End(*numbers)
+    if kind == "offer":
+        return Offer(*numbers)
+    return Sending(*numbers)
 
 
 # report lines
@@ -170,7 +176,7 @@ FACTS = {
     "silent": "was not seen to work in time",
 }  # fmt: skip
 WATCHED = {"seen": "was seen to work", "missing": "was not seen in time", "unwatchable": "is shown by no packet"}
-MEMBERS = {
+MEMBERS: Dict[str, Dict[str, type]] = {
     "armed": {"datapath": str, "session": int, "tag": int}, "closed": {"cause": str, "session": int},
     "confirmed": {"edit": int, "serial": int, "session": int},
     **{event: {"edit": int, "session": int} for event in FACTS},
@@ -182,8 +188,9 @@ MEMBERS = {
 def read_report(lines: Lines, text: str) -> Dict[str, Any]:
     """A report line: compact JSON with the members of its event."""
     try:
-        line = json.loads(text)
-        wanted = {"event": str, **MEMBERS[line["event"]]}
+        line: Dict[str, Any] = json.loads(text)
+        wanted: Dict[str, type] = {"event": str}
+        wanted.update(MEMBERS[line["event"]])
     except (ValueError, KeyError, TypeError):
         raise lines.bad("is no report line") from None
     if {name: type(value) for name, value in line.items()} != wanted:
@@ -272,7 +279,9 @@ class Story:
         if isinstance(event, Sending):
             return f"probe {event.serial} is made for {self.job_name(event.job)}"
         if isinstance(event, Verdict):
-            said = {"probe": "a packet shows it", "indistinguishable": "no packet shows it", "skipped": "skipped"}[event.kind]
+            said = {"probe": "a packet shows it", "indistinguishable": "no packet shows it", "skipped": "skipped"}[
+                event.kind
+            ]
             return f"{self.job_name(event.job)}: {said}"
         assert isinstance(event, Put)
         number = f" as edit {len(self.edits[event.session])}" if is_edit(event) else ""
@@ -289,7 +298,12 @@ def is_edit(put: Put) -> bool:
 
 def probe_of(event: NamedTuple) -> Optional[Nonce]:
     """The nonce of a probe that is put."""
-    if not isinstance(event, Put) or event.frame.kind != 13 or event.frame.xid != OWN_XID or len(event.frame.wire) < 24:
+    if (
+        not isinstance(event, Put)
+        or event.frame.kind != 13
+        or event.frame.xid != OWN_XID
+        or len(event.frame.wire) < 24
+    ):
         return None
     found = read_packet(event.frame.wire[24:])
     return found[1] if found else None

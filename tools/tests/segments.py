@@ -34,14 +34,20 @@ class Side:
 
 def ethernet(source: Side, target: Side, sequence: int, payload: bytes, flags: int) -> bytes:
     """An Ethernet frame with a TCP segment; checksums are not looked at."""
-    tcp = struct.pack(">HHIIBBHHH", source.port, target.port, sequence % 2**32, target.next % 2**32, 0x50, flags, 4096, 0, 0)
+    tcp = struct.pack(
+        ">HHIIBBHHH", source.port, target.port, sequence % 2**32, target.next % 2**32, 0x50, flags, 4096, 0, 0
+    )
     ip = struct.pack(">BBHIBBH", 0x45, 0, 40 + len(payload), 0, 64, 6, 0) + source.ip() + target.ip()
     return bytes.fromhex("020000000001020000000002") + b"\x08\x00" + (ip + tcp + payload).ljust(46, b"\0")
 
 
 def greeting(switch: Side, controller: Side, time: int) -> List[Wire]:
     """The three segments that open a connection."""
-    return [switch.sends(controller, time, flags=SYN), controller.sends(switch, time, flags=SYN_ACK), switch.sends(controller, time)]
+    return [
+        switch.sends(controller, time, flags=SYN),
+        controller.sends(switch, time, flags=SYN_ACK),
+        switch.sends(controller, time),
+    ]
 
 
 def pcap(packets: Sequence[Wire], order: str = "<", nano: bool = False) -> bytes:
@@ -49,7 +55,8 @@ def pcap(packets: Sequence[Wire], order: str = "<", nano: bool = False) -> bytes
     head = struct.pack(f"{order}IHHiIII", 0xA1B23C4D if nano else 0xA1B2C3D4, 2, 4, 0, 0, 65535, 1)
     scale = 1000 if nano else 1
     return head + b"".join(
-        struct.pack(f"{order}IIII", time // 10**6, time % 10**6 * scale, len(frame), len(frame)) + frame for time, frame in packets
+        struct.pack(f"{order}IIII", time // 10**6, time % 10**6 * scale, len(frame), len(frame)) + frame
+        for time, frame in packets
     )
 
 

@@ -69,9 +69,13 @@ class Explain(Case):
 
     def test_a_probe_that_shows_nothing_is_doubted(self) -> None:
         # to port 2 by the rule, and so by the rule below
-        header = "0001" + "020000000001" + "020000000002" + "0064" + "00" + "0800" + "00" + "11" + "0a000001" + "0a000005"
+        header = (
+            "0001" + "020000000001" + "020000000002" + "0064" + "00" + "0800" + "00" + "11" + "0a000001" + "0a000005"
+        )
         header += "00010002"
-        proof = self.certificates(["rules 2", f"probe 0 {header} port 2 {header}", f"probe 1 {header} port 2 {header}"])
+        proof = self.certificates(
+            ["rules 2", f"probe 0 {header} port 2 {header}", f"probe 1 {header} port 2 {header}"]
+        )
         ran = tool("explain", self.table([f"rule 9 {ipv4_to('0a000005', 0)} {TO_2}", f"rule 5 {IPV4} {TO_2}"]), proof)
         self.assertEqual(ran.out.count("let `monocle check` judge the certificate"), 2)
 
@@ -146,6 +150,10 @@ class Explain(Case):
         said = tool("explain", self.table([good]), name).said
         self.assertEqual(said, f"explain: {name}: has 2 certificates for a table of 1 rules\n")
         said = tool("explain", "-", text='{"event":"silent","session":3}\n').said
-        self.assertEqual(said, 'explain: standard input:1: is no report line of its event: {"event":"silent","session":3}\n')
+        self.assertEqual(
+            said, 'explain: standard input:1: is no report line of its event: {"event":"silent","session":3}\n'
+        )
         said = tool("explain", "-", text="4 put 0 switch 0100\n").said
-        self.assertEqual(said, "explain: standard input:1: is no frame to a switch or controller: 4 put 0 switch 0100\n")
+        self.assertEqual(
+            said, "explain: standard input:1: is no frame to a switch or controller: 4 put 0 switch 0100\n"
+        )

@@ -68,13 +68,13 @@ class FlowsToTable(Case):
     def test_each_field_as_the_switch_spells_it(self) -> None:
         ran = tool("flows2table", SETTINGS, "1", os.path.join(DATA, "every-field.flows"), "--strict")
         self.assertEqual((ran.status, ran.said), (0, ""))
-        self.assertEqual(sorted(ran.out[len(VIEW):].splitlines()), content(DATA, "every-field.rules").splitlines())
+        self.assertEqual(sorted(ran.out[len(VIEW) :].splitlines()), content(DATA, "every-field.rules").splitlines())
 
     def test_rank_of_a_rule_without_wildcards(self) -> None:
         exact = ("udp,in_port=1,dl_vlan=100,dl_vlan_pcp=0,dl_src=02:00:00:00:00:01,dl_dst=02:00:00:00:00:02,nw_src=10.0.0.1,"
                  "nw_dst=10.0.0.2,nw_tos=0,tp_src=1,tp_dst=2 actions=output:2")  # fmt: skip
         ran = tool("flows2table", SETTINGS, "1", text=f"priority=9 actions=drop\npriority=0,{exact}\n")
-        self.assertEqual([line.split()[1] for line in ran.out[len(VIEW):].splitlines()], ["0", "9"])
+        self.assertEqual([line.split()[1] for line in ran.out[len(VIEW) :].splitlines()], ["0", "9"])
         twice = tool("flows2table", SETTINGS, "1", text=f"priority=1,{exact}\npriority=0,{exact}\n")
         self.assertEqual(twice.status, 0)
         self.assertIn("standard input:2: left out: monocle tells it apart from line 1 by nothing", twice.said)
@@ -87,7 +87,11 @@ class FlowsToTable(Case):
         for number, line in enumerate(content(name).splitlines(), 1):
             priority = int(line.partition("priority=")[2].partition(",")[0].partition(" ")[0] or 0)
             if priority in BEYOND:
-                said = [one for one in ran.said.splitlines() if one.startswith(f"flows2table: {name}:{number}: left out: ")]
+                said = [
+                    one
+                    for one in ran.said.splitlines()
+                    if one.startswith(f"flows2table: {name}:{number}: left out: ")
+                ]
                 self.assertEqual(len(said), 1)
                 self.assertIn(BEYOND[priority], said[0])
                 self.assertTrue(said[0].endswith(line.strip()))
@@ -111,7 +115,9 @@ class FlowsToTable(Case):
         target = os.path.join(self.folder, "table")
         for line, why in BAD:
             with self.subTest(line):
-                ran = tool("flows2table", SETTINGS, "1", "-o", target, text=f"# flows\npriority=5 actions=drop\n{line}\n")
+                ran = tool(
+                    "flows2table", SETTINGS, "1", "-o", target, text=f"# flows\npriority=5 actions=drop\n{line}\n"
+                )
                 self.assertEqual(ran, (2, "", f"flows2table: standard input:3: {why}: {line}\n"))
                 self.assertFalse(os.path.exists(target))
 
@@ -130,7 +136,9 @@ class FlowsToTable(Case):
                 name = self.file("settings.json", good.replace(old, new))
                 ran = tool("flows2table", name, "1", text="priority=5 actions=drop\n")
                 self.assertEqual(ran, (2, "", f"flows2table: {name}: {why}\n"))
-        self.assertEqual(tool("flows2table", SETTINGS, "9").said, f"flows2table: {SETTINGS}: has no switch {9:016x}\n")
+        self.assertEqual(
+            tool("flows2table", SETTINGS, "9").said, f"flows2table: {SETTINGS}: has no switch {9:016x}\n"
+        )
 
     @unittest.skipIf(missing(), "Open vSwitch is not installed")
     def test_there_and_back_through_open_vswitch(self) -> None:

@@ -31,7 +31,7 @@ class Pcap2Trace(Case):
         ran = self.convert(packets, *words)
         self.assertEqual((ran.status, ran.said), (0, ""))
         self.assertTrue(ran.out.startswith(HEAD))
-        return ran.out[len(HEAD):].splitlines()
+        return ran.out[len(HEAD) :].splitlines()
 
     def test_demo(self) -> None:
         ran = tool("pcap2trace", os.path.join(DEMO, "greeting.pcap"))
@@ -40,7 +40,11 @@ class Pcap2Trace(Case):
     def test_late_repeated_and_overlapping_segments(self) -> None:
         switch, controller = sides()
         packets = greeting(switch, controller, 0)
-        packets += [switch.sends(controller, 1, b"abcd"), switch.sends(controller, 2, b"efgh"), switch.sends(controller, 3, b"ij")]
+        packets += [
+            switch.sends(controller, 1, b"abcd"),
+            switch.sends(controller, 2, b"efgh"),
+            switch.sends(controller, 3, b"ij"),
+        ]
         one, two, three = packets[3:]
         again = switch.sends(controller, 4, b"cdefghi", sequence=3)
         for order, wanted in [
@@ -94,7 +98,14 @@ class Pcap2Trace(Case):
         packets = greeting(switch, controller, SECOND) + [switch.sends(controller, SECOND + 120000, b"a")]
         wanted = (0, f"{HEAD}open\ntick\nfrom switch 0 61\n", "")
         tagged = [Wire(time, frame[:12] + b"\x81\0\0\5" + frame[12:]) for time, frame in packets]
-        for made in (pcap(packets), pcap(packets, ">"), pcap(packets, nano=True), pcapng(packets), pcapng(packets, ">"), pcap(tagged)):
+        for made in (
+            pcap(packets),
+            pcap(packets, ">"),
+            pcap(packets, nano=True),
+            pcapng(packets),
+            pcapng(packets, ">"),
+            pcap(tagged),
+        ):
             self.assertEqual(self.convert([], made=made), wanted)
 
     def test_ports(self) -> None:
@@ -125,7 +136,7 @@ class Pcap2Trace(Case):
         switch, controller = sides()
         packets = greeting(switch, controller, 0) + [switch.sends(controller, 1, b"abcd" * 10)]
         good = pcap(packets)
-        cut = good[:-94 - 8] + struct.pack("<II", 90, 94) + good[-94:-4]
+        cut = good[: -94 - 8] + struct.pack("<II", 90, 94) + good[-94:-4]
         for made, why in [
             (b"GIF89a", "is neither a pcap nor a pcapng file"),
             (good[:-1], "packet 4: the file ends in it"),

@@ -19,7 +19,7 @@ def contrast(one: str, other: str) -> float:
 
     def luminance(colour: str) -> float:
         parts = [int(colour[at : at + 2], 16) / 255 for at in (1, 3, 5)]
-        linear = [part / 12.92 if part <= 0.03928 else ((part + 0.055) / 1.055) ** 2.4 for part in parts]
+        linear: List[float] = [part / 12.92 if part <= 0.03928 else ((part + 0.055) / 1.055) ** 2.4 for part in parts]
         return 0.2126 * linear[0] + 0.7152 * linear[1] + 0.0722 * linear[2] + 0.05
 
     high, low = sorted((luminance(one), luminance(other)), reverse=True)
@@ -35,7 +35,7 @@ class Picture(Case):
         return tree.fromstring(ran.out.replace('xmlns="http://www.w3.org/1999/xhtml" ', ""))
 
     def cells(self, page: tree.Element) -> List[str]:
-        return [(cell.find("use") if cell.find("use") is not None else cell).attrib["href"] for cell in page.iter("a")]
+        return [use.attrib["href"] for cell in page.iter("a") for use in cell.iter("use")]
 
     def test_demo(self) -> None:
         table, proof = os.path.join(DEMO, "five-rules.table"), os.path.join(DEMO, "five-rules.certificates")
@@ -43,7 +43,9 @@ class Picture(Case):
         self.assertEqual(self.cells(page), ["#not-shown", "#shown", "#tied", "#tied", "#shown"])
         self.assertEqual([item.attrib["id"] for item in page.iter("li")], [f"rule-{place}" for place in range(5)])
         said = "".join(next(item for item in page.iter("li") if item.attrib["id"] == "rule-0").itertext())
-        self.assertIn("rule 1 (priority=100,ip,nw_dst=10.0.0.0/24 actions=output:2) stands below it and does the same", said)
+        self.assertIn(
+            "rule 1 (priority=100,ip,nw_dst=10.0.0.0/24 actions=output:2) stands below it and does the same", said
+        )
         self.assertEqual(tool("picture", table, proof).out, content(DEMO, "five-rules.html"), REMADE)
 
     def test_marks_differ_without_colour(self) -> None:
@@ -91,7 +93,10 @@ class Picture(Case):
         """A large generated table, and certificates that call the rules of one rank tied, and the others not shown."""
         table = generated(count, 7)
         lines = ["monocle-certificates 1", f"rules {len(table.rules)}"]
-        lines += [f"none {place} 0" if rule.priority > 4000 else f"overlap {place}" for place, rule in enumerate(table.rules)]
+        lines += [
+            f"none {place} 0" if rule.priority > 4000 else f"overlap {place}"
+            for place, rule in enumerate(table.rules)
+        ]
         return [self.file("table", table.text()), self.file("certificates", "".join(f"{line}\n" for line in lines))]
 
     def test_as_many_cells_as_rules(self) -> None:
@@ -104,7 +109,15 @@ class Picture(Case):
         page = os.path.join(self.folder, "page.html")
         words = self.big(700)
         self.assertEqual(tool("picture", *words, "-o", page).status, 0)
-        command = [BROWSER, "--headless", "--no-sandbox", "--disable-gpu", f"--user-data-dir={self.folder}", "--dump-dom", f"file://{page}"]
+        command = [
+            BROWSER,
+            "--headless",
+            "--no-sandbox",
+            "--disable-gpu",
+            f"--user-data-dir={self.folder}",
+            "--dump-dom",
+            f"file://{page}",
+        ]
         drawn = subprocess.run(command, capture_output=True, text=True, timeout=120).stdout
         found = re.search('data-drawn="([0-9]+)"', drawn)
         self.assertEqual(found and int(found[1]), content(words[0]).count("\nrule "))
@@ -115,4 +128,6 @@ class Picture(Case):
         self.assertIn("five-rules.table:1: a record is a number", ran.said)
         trace = self.file("trace", "monocle-trace 1 0000000000000001\nopen\nfrom switch 1 00\n")
         ran = tool("picture", os.path.join(DEMO, "one-update.output"), "--trace", trace)
-        self.assertEqual((ran.status, ran.said), (2, f"picture: {trace}:3: session 1 was not opened: from switch 1 00\n"))
+        self.assertEqual(
+            (ran.status, ran.said), (2, f"picture: {trace}:3: session 1 was not opened: from switch 1 00\n")
+        )
