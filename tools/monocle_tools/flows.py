@@ -290,7 +290,7 @@ FOREIGN_ACTIONS = re.compile(
     "stack_pop|mod_nw_ecn|mod_nw_ttl|dec_mpls_ttl|set_mpls_.*|dec_nsh_ttl|output_reg|check_pkt_larger|delete_field|"
     "debug_.*|reg_load|set_vlan_vid|set_vlan_pcp"
 )
-REPLY = re.compile(r"(NXST|OFPST)_FLOW reply( \([^)]*\))*( flags=\[more\])?:?")
+REPLY = re.compile(r"(NXST|OFPST)_FLOW reply( \([^)]*\))*:?( flags=\[more\])?:?")
 
 
 def read_flow(text: str, unsure: bool) -> Tuple[Optional[Rule], List[str]]:

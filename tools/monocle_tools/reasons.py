@@ -155,7 +155,7 @@ class Explainer:
                 said.append(f"{self.name(place)} takes it and sends it {doors}")
             else:
                 said.append(f"{self.name(place)} takes it and sends it nowhere")
-        return listed(said, 3) if said else "no rule takes it, so it is a miss"
+        return " or ".join(said) if said else "no rule takes it, so it is a miss"
 
     # the three kinds
 
@@ -280,7 +280,7 @@ class Explainer:
         """Why this packet, which the rule takes, doesn't show it."""
         sent, _ = run(self.rules[place].actions, header)
         if not sent:
-            yield f"it sends back by port {header.in_port} alone, where the packet came in, and so nowhere"
+            yield f"what comes in by port {header.in_port} would go back by it alone, and so goes nowhere"
         others, _ = self.winners(header, without=place, among=among)
         for one in sent:
             why = self.uncaught(one)

@@ -36,7 +36,7 @@ HIDDEN = [
     ([f"rule 9 {IPV4} 0003000800000000{TO_2}"], 0, "it sends by port 2 without a VLAN tag, which switch 0000000000000003"),
     ([f"rule 9 {IPV4} 0001000800650000{TO_2}"], 0, "it sends by port 2 with the VLAN id 101, which switch 0000000000000003"),
     ([f"rule 9 {IPV4} 00000008fffd007f"], 0, "it sends fewer than 128 bytes to the controller"),
-    (["rule 9 003820fe0002" + 34 * "00" + f" {TO_2}"], 0, "it sends back by port 2 alone, where the packet came in"),
+    (["rule 9 003820fe0002" + 34 * "00" + f" {TO_2}"], 0, "what comes in by port 2 would go back by it alone, and so goes nowhere"),
     ([f"rule 9 {IPV4} {TO_2}", f"rule 5 {ipv4_to('0a000000', 8)} 0000000800010000"], 1,
      "rule 0 (priority=9,ip actions=output:2) stands above it and takes all that it would take"),
     ([f"rule 9 {ipv4_to('0a000005', 0)} {TO_2}", f"rule 5 {IPV4} {TO_2}"], 0,

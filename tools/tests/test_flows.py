@@ -65,6 +65,12 @@ class FlowsToTable(Case):
             with self.subTest(flow):
                 self.assertEqual(tool("flows2table", SETTINGS, "1", text=f"{flow}\n"), (0, f"{VIEW}{line}\n", ""))
 
+    def test_lines_that_are_no_flows(self) -> None:
+        heads = ["NXST_FLOW reply (xid=0x4): flags=[more]", "OFPST_FLOW reply (xid=0x2):", "", "# a comment"]
+        for head in heads:
+            ran = tool("flows2table", SETTINGS, "1", text=f"{head}\n{WORKED[0][0]}\n")
+            self.assertEqual(ran, (0, f"{VIEW}{WORKED[0][1]}\n", ""))
+
     def test_each_field_as_the_switch_spells_it(self) -> None:
         ran = tool("flows2table", SETTINGS, "1", os.path.join(DATA, "every-field.flows"), "--strict")
         self.assertEqual((ran.status, ran.said), (0, ""))
