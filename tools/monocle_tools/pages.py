@@ -38,7 +38,7 @@ summary { cursor: pointer; display: flex; gap: .6em; align-items: center } .numb
 details > p { margin-left: 5em } .note { color: #444; font-size: .93em }
 body.no-shown li.shown, body.no-tied li.tied, body.no-not-shown li.not-shown { display: none }
 @media print { body { margin: 0; max-width: none; font-size: 10px } code, .words { font-size: 8.5px } input { display: none }
-  * { -webkit-print-color-adjust: exact; print-color-adjust: exact } li, .row { break-inside: avoid } section { break-before: auto } }
+  * { -webkit-print-color-adjust: exact; print-color-adjust: exact } li, svg { break-inside: avoid } section { break-before: auto } }
 """
 
 

@@ -15,6 +15,8 @@ from .traces import End, Offer, Put, Record, Report, Row, Sending, Story, Verdic
 SIDES = {"controller": 190, "monocle": 330, "switch": 470}
 OTHER = {"controller": "switch", "switch": "controller"}
 ROW, TOP, WORDS, WIDTH = 24, 46, 500, 1180
+# how many lines stand in one drawing, so that pages break between drawings
+PART = 50
 # what ends the wait for an edit
 OUTCOMES = ("confirmed", "settled", "rejected", "silent", "nochange")
 
@@ -228,22 +230,32 @@ def drawn_step(step: Step, y: int, clock: Clock) -> str:
     return "".join(parts) + f'<text x="{WORDS}" y="{y + 4}">{escape(shown)}</text></g>'
 
 
-def drawn_timeline(line: Timeline) -> Iterator[str]:
-    """The drawing of one session."""
-    steps, bars = line.drawn()
-    height = TOP + ROW * len(steps) + 10
+def drawn_part(steps: Sequence[Step], bars: Sequence[Bar], clock: Clock) -> Iterator[str]:
+    """The drawing of some lines of a session; bars are cut to these lines."""
+    height = TOP + ROW * len(steps) + 4
     yield f'<svg class="timeline" viewBox="0 0 {WIDTH} {height}" width="{WIDTH}" height="{height}" role="img">'
     yield '<text x="130" y="20" text-anchor="end">record</text>'
     for side, x in SIDES.items():
         yield f'<text x="{x}" y="20" text-anchor="middle">{side}</text>'
-        yield f'<path d="M{x} 28 V{height - 8}" stroke="#bbbbbb" stroke-width="1"/>'
+        yield f'<path d="M{x} 28 V{height - 4}" stroke="#bbbbbb" stroke-width="1"/>'
     for bar in bars:
-        top, bottom = TOP + ROW * bar.first, TOP + ROW * bar.last
-        yield (f'<rect class="held" x="{SIDES["monocle"] - 4}" y="{top}" width="8" height="{max(2, bottom - top)}" fill="{PURPLE}" '
-               f'fill-opacity=".55"><title>{escape(bar.words)}</title></rect>')  # fmt: skip
+        top, bottom = TOP + ROW * max(bar.first, -0.5), TOP + ROW * min(bar.last, len(steps) - 0.5)
+        if top < bottom:
+            yield (
+                f'<rect class="held" x="{SIDES["monocle"] - 4}" y="{top}" width="8" height="{bottom - top}" '
+                f'fill="{PURPLE}" fill-opacity=".55"><title>{escape(bar.words)}</title></rect>'
+            )
     for place, step in enumerate(steps):
-        yield drawn_step(step, TOP + ROW * place, line.clock)
+        yield drawn_step(step, TOP + ROW * place, clock)
     yield "</svg>"
+
+
+def drawn_timeline(line: Timeline) -> Iterator[str]:
+    """The drawings of one session, none longer than a page."""
+    steps, bars = line.drawn()
+    for start in range(0, max(1, len(steps)), PART):
+        moved = [Bar(bar.first - start, bar.last - start, bar.words) for bar in bars]
+        yield from drawn_part(steps[start : start + PART], moved, line.clock)
 
 
 def timeline_page(events: Sequence[NamedTuple], records: Optional[Sequence[Record]], tick_ms: int) -> str:

@@ -69,6 +69,17 @@ class Picture(Case):
         self.assertIn("BARRIER_REPLY (xid 0x12), held for 2 records", said)
         self.assertIn("one of its ends closed", [text.text for text in drawings[1].iter("text")][-1] or "")
 
+    def test_a_long_timeline_is_drawn_in_parts(self) -> None:
+        echoes = [f"from controller 0 01020008{number:08x}\n" for number in range(1, 121)]
+        trace = self.file("trace", "monocle-trace 1 0000000000000001\nopen\n" + "".join(echoes) + 3 * "tick\n")
+        puts = [f"{number + 1} put 0 switch 01020008{number:08x}\n" for number in range(2, 121)]
+        output = self.file("output", "".join(puts) + "124 put 0 switch 0102000800000001\n")
+        page = self.page(output, "--trace", trace)
+        parts = [svg for svg in page.iter("svg") if svg.attrib.get("class") == "timeline"]
+        self.assertEqual([len(list(part.iter("g"))) for part in parts], [50, 50, 21])
+        held = [[rect for rect in part.iter("rect") if rect.attrib.get("class") == "held"] for part in parts]
+        self.assertEqual([len(bars) for bars in held], [1, 1, 1])
+
     def test_time_between_in_ticks(self) -> None:
         trace = content(DEMO, "one-update.trace").replace("answer 0\n", "tick\ntick\nanswer 0\n")
         moved = [re.sub("^1[567] ", lambda found: f"{int(found[0]) + 2} ", line)
