@@ -5,13 +5,14 @@ use Rattle.std.specs.Option.{option_to_list}
 use Rattle.std.specs.List.{concat, AllByRecursion}
 use Rattle.of_frame.specs.declared.fault.FrameFault.{FrameFault}
 use Rattle.of_frame.specs.declared.fault.FrameFault.TheVariants.{BadLength, BadVersion}
-use Rattle.of_frame.specs.Header.{length_field, IsFrame}
+use Rattle.of_frame.specs.Kinds.{VERSION, HELLO}
+use Rattle.of_frame.specs.Header.{length_field, kind_of, IsFrame}
 
 -- what is wrong with a header of eight bytes: its length, and else its version, which only a HELLO may choose
 unfoldable pub header_fault : List ℕ → Option FrameFault
 header_fault bytes =
     if nat_lt (length_field bytes) 8 then Some BadLength
-    else (if (slice_index bytes 0 == 1) || (slice_index bytes 1 == 0) then None else Some BadVersion)
+    else (if (slice_index bytes 0 == VERSION) || (kind_of bytes == HELLO) then None else Some BadVersion)
 
 -- the first n bytes are a whole frame, with no fault in its header
 pub record IsWholeAt (n : ℕ) (bytes : List ℕ) : Type 0 where

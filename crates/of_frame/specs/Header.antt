@@ -2,6 +2,7 @@
 use Rattle.std.specs.Prelude.{◌≡◌, ℕ, ◌+◌, ◌≤◌, List, ◌∷◌, ◌++◌, length, slice_index}
 use Rattle.byteorder.specs.Endian.{big_bytes}
 use Rattle.mon_fields.specs.Fields.{number_at}
+use Rattle.of_frame.specs.Kinds.{VERSION}
 
 -- the length that a header names
 abbrev pub length_field : List ℕ → ℕ
@@ -18,6 +19,6 @@ kind_of bytes = slice_index bytes 1
 abbrev pub xid_of : List ℕ → ℕ
 xid_of bytes = number_at 4 4 bytes
 
--- a frame of version 1 with this type, xid and body
+-- a frame of OpenFlow 1.0 with this type, xid and body
 abbrev pub made : ℕ → ℕ → List ℕ → List ℕ
-made kind xid body = 1 ∷ kind ∷ (big_bytes 2 (8 + length body) ++ (big_bytes 4 xid ++ body))
+made kind xid body = VERSION ∷ kind ∷ (big_bytes 2 (8 + length body) ++ (big_bytes 4 xid ++ body))

@@ -1,2 +1,3 @@
+pub mod Kinds
 pub mod Header
 pub mod Cut

@@ -1,11 +1,10 @@
 //! Cuts a stream into frames, in whatever pieces it comes.
 
-ghost use Rattle.std.specs.Prelude.{◌≡◌, ◌≤◌, ◌<◌, ◌+◌, ◌++◌, List, ℕ, [], Some, None, Option, length, take, drop, IfOk, OnOk, IfSome, MatchBool};
+ghost use Rattle.std.specs.Prelude.{◌≡◌, ◌≤◌, ◌<◌, ◌+◌, ◌++◌, [], Some, None, Option, length, take, drop, IfOk, OnOk, IfSome, MatchBool};
 ghost use Rattle.std.specs.Option.{option_to_list};
-ghost use Rattle.std.specs.List.{concat};
 ghost use Rattle.of_frame.specs.declared.fault.FrameFault.{FrameFault};
-ghost use Rattle.of_frame.specs.Header.{IsFrame, length_field};
-ghost use Rattle.of_frame.specs.Cut.{Pending, IsPending, IsWholeAt, nothing_yet, grown, header_fault, cut, cut_pieces, IsCutInto};
+ghost use Rattle.of_frame.specs.Header.{length_field};
+ghost use Rattle.of_frame.specs.Cut.{Pending, IsPending, IsWholeAt, nothing_yet, grown, cut};
 
 use crate::fault::FrameFault;
 use crate::frame::{Frame, fault_of, length_of};
@@ -165,19 +164,3 @@ impl Cutter {
         })
     }
 }
-
-/// Frames and fault are those of the joined pieces, whatever the pieces.
-pub fn pieces_do_not_matter()
-    ensures { (p : Pending) (pieces : List (List ℕ)) → cut_pieces p pieces ≡ cut p (concat pieces) }
-{}
-
-/// After a fault nothing more is cut, and the fault stays.
-pub fn a_fault_stays()
-    ensures { (p : Pending) (fault : FrameFault) (bytes : List ℕ) → p.fault ≡ Some fault → cut p bytes ≡ (p, []) }
-{}
-
-/// What is cut of a stream is the stream: whole frames in order, then the bytes of a frame that is not whole yet, or
-/// those of the first header with a fault and all bytes behind it.
-pub fn frames_are_the_stream()
-    ensures { (bytes : List ℕ) → (uncut : List ℕ) × IsCutInto bytes (cut nothing_yet bytes) uncut }
-{}

@@ -1,15 +1,19 @@
 //! A frame: eight bytes or more, as many as its header says.
 
-ghost use Rattle.std.specs.Prelude.{◌≡◌, ◌≤◌, ◌+◌, ◌^◌, ◌<◌, List, ℕ, length, slice_index, IfOk, OnOk};
+ghost use Rattle.std.specs.Prelude.{◌≡◌, ◌≤◌, ◌+◌, ◌^◌, ◌<◌, List, ℕ, length, IfOk};
 ghost use Rattle.of_frame.specs.Header.{IsFrame, length_field, kind_of, xid_of, made};
 ghost use Rattle.of_frame.specs.Cut.{header_fault};
 
 use crate::fault::FrameFault;
+use crate::kinds::HELLO;
 use byteorder::{BigEndian, ByteOrder};
 use mon_fields::{u16_at, u32_at};
 use mon_list::OutOfMemory;
 use std::alloc::Global;
 use std::marker::Model;
+
+/// The version of OpenFlow 1.0.
+const VERSION: u8 = 1;
 
 /// A whole message as it stands on the wire (OpenFlow 1.0.0, OpenFlow header): 8 to 65,535 bytes, as many as its
 /// length field says.
@@ -27,12 +31,12 @@ impl Model for Frame {
 }
 
 impl Frame {
-    /// A frame of version 1 with this type, xid and body.
+    /// A frame of OpenFlow 1.0 with this type, xid and body.
     pub fn make(alloc: Global, kind: u8, xid: u32, body: &[u8]) -> Result<Frame, OutOfMemory>
         requires { length body.now ≤ 65527 }
         ensures { IfOk result (λ f. f ≡ made kind xid body.now) }
     {
-        let mut header = [1, kind, 0, 0, 0, 0, 0, 0];
+        let mut header = [VERSION, kind, 0, 0, 0, 0, 0, 0];
         BigEndian::write_u16(&mut header[2..], (8 + body.len()) as u16);
         BigEndian::write_u32(&mut header[4..], xid);
         let mut bytes = Vec::with_capacity(alloc, 8 + body.len())?;
@@ -71,14 +75,6 @@ impl Frame {
     {
         u32_at(&self.bytes, 4)
     }
-
-    /// The same frame once more.
-    pub fn copied(&self, alloc: Global) -> Result<Frame, OutOfMemory>
-        ensures { IfOk result (λ f. f ≡ self.now) }
-    {
-        let bytes = Vec::from_slice(alloc, &self.bytes)?;
-        Ok(Frame { bytes })
-    }
 }
 
 /// The bytes of a frame, which are fewer than 2^16, since the length field has 16 bits.
@@ -107,7 +103,7 @@ pub(crate) fn fault_of(bytes: &[u8]) -> Option<FrameFault>
 {
     if length_of(bytes) < 8 {
         Some(FrameFault::BadLength)
-    } else if bytes[0] == 1 || bytes[1] == 0 {
+    } else if bytes[0] == VERSION || bytes[1] == HELLO {
         None
     } else {
         Some(FrameFault::BadVersion)

@@ -9,10 +9,13 @@
 mod cutter;
 mod fault;
 mod frame;
+pub mod kinds;
+mod laws;
 #[cfg(test)]
 mod tests;
 
-pub use cutter::{Cut, Cutter, Frames, a_fault_stays, frames_are_the_stream, pieces_do_not_matter};
+pub use cutter::{Cut, Cutter, Frames};
 pub use fault::FrameFault;
 pub use frame::Frame;
+pub use laws::{a_fault_stays, frames_are_the_stream, pieces_do_not_matter};
 pub use mon_list::OutOfMemory;

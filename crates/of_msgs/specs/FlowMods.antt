@@ -1,6 +1,7 @@
 -- A FLOW_MOD by its byte places (OpenFlow 1.0.0, modify flow entry message), and what one is refused for.
 use Rattle.std.specs.Prelude.{◌≡◌, ℕ, ◌<◌, ◌≤◌, ◌^◌, List, ◌++◌, length, take, drop, Result, Ok, Err}
 use Rattle.byteorder.specs.Endian.{big_bytes}
+use Rattle.of_frame.specs.Kinds.{FLOW_MOD}
 use Rattle.of_frame.specs.Header.{xid_of, made}
 use Rattle.of_match.specs.Layout.{match_of}
 use Rattle.mon_fields.specs.Fields.{number_at}
@@ -62,9 +63,9 @@ as_mod_fault actions.OutOfMemory = faults.OutOfMemory
 abbrev pub ReadsFlowMod : List ℕ → Result FlowMod ModFault → Type 0
 ReadsFlowMod bytes (Ok m) = IsFlowMod bytes m
 ReadsFlowMod bytes (Err faults.ModLength) = length bytes < 72
-ReadsFlowMod bytes (Err faults.ModCommand) = (72 ≤ length bytes) × (4 < command_at bytes)
+ReadsFlowMod bytes (Err faults.ModCommand) = (72 ≤ length bytes) × (command_number DeleteStrict < command_at bytes)
 ReadsFlowMod bytes (Err (faults.ActionLength place)) =
-    (72 ≤ length bytes) × (command_at bytes ≤ 4) × (actions_of (drop 72 bytes) ≡ Err place)
+    (72 ≤ length bytes) × (command_at bytes ≤ command_number DeleteStrict) × (actions_of (drop 72 bytes) ≡ Err place)
 ReadsFlowMod bytes (Err faults.OutOfMemory) = Unit {0}
 
 -- the fields between the match and the actions
@@ -75,4 +76,4 @@ fields_of_mod m =
 
 -- the frame of a FLOW_MOD: the match and the actions as they were spelled
 abbrev pub flow_mod_of : FlowMod → List ℕ
-flow_mod_of m = made 14 m.xid (m.spelled ++ fields_of_mod m ++ m.raw)
+flow_mod_of m = made FLOW_MOD m.xid (m.spelled ++ fields_of_mod m ++ m.raw)

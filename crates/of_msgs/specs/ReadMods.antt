@@ -13,16 +13,16 @@ use Rattle.of_msgs.specs.declared.fault.ModFault.{ModFault}
 use Rattle.of_msgs.specs.declared.fault.ModFault.TheVariants as faults
 use Rattle.of_msgs.specs.declared.flow_mod.FlowMod.{FlowMod}
 use Rattle.of_msgs.specs.Kept.{Means}
-use Rattle.of_msgs.specs.FlowMods.{command_at}
+use Rattle.of_msgs.specs.FlowMods.{command_number, command_at}
 
--- the command of a number; none above 4
+-- the command of a number, where there is one
 abbrev pub command_numbered : ℕ → Option Command
 command_numbered number =
-    if number == 0 then Some Add
-    else (if number == 1 then Some Modify
-    else (if number == 2 then Some ModifyStrict
-    else (if number == 3 then Some Delete
-    else (if number == 4 then Some DeleteStrict
+    if number == command_number Add then Some Add
+    else (if number == command_number Modify then Some Modify
+    else (if number == command_number ModifyStrict then Some ModifyStrict
+    else (if number == command_number Delete then Some Delete
+    else (if number == command_number DeleteStrict then Some DeleteStrict
     else None))))
 
 -- the message of these bytes, whose command and actions were read, with the facts that a message keeps

@@ -1,6 +1,7 @@
 //! What a FLOW_MOD does.
 
 ghost use Rattle.std.specs.Prelude.{◌≡◌, ◌<◌, MatchOption};
+ghost use Rattle.of_msgs.specs.declared.command.Command.TheVariants.{DeleteStrict};
 ghost use Rattle.of_msgs.specs.FlowMods.{command_number};
 
 /// What a FLOW_MOD does to the flow table (OpenFlow 1.0.0, modify flow entry message).
@@ -20,7 +21,7 @@ pub enum Command {
 
 /// The command of this number.
 pub(crate) fn command_of(number: u16) -> Option<Command>
-    ensures { MatchOption result (4 < number) (λ command. command_number command ≡ number) }
+    ensures { MatchOption result (command_number DeleteStrict < number) (λ command. command_number command ≡ number) }
 {
     match number {
         0 => Some(Command::Add),

@@ -2,13 +2,13 @@
 
 ghost use Rattle.std.specs.Prelude.{◌≡◌, ◌<◌, ◌≤◌, ◌++◌, length, take, MatchOption, IfOk};
 ghost use Rattle.byteorder.specs.Endian.{big_bytes};
-ghost use Rattle.of_frame.specs.Header.{kind_of, xid_of};
+ghost use Rattle.of_frame.specs.Header.{xid_of};
 ghost use Rattle.of_msgs.specs.Layout.{IsError, error_of};
 
-use crate::kinds::ERROR;
 use mon_fields::u16_at;
 use mon_list::OutOfMemory;
 use of_frame::Frame;
+use of_frame::kinds::ERROR;
 use std::alloc::Global;
 
 /// How many bytes of a failed frame an ERROR bears at most.

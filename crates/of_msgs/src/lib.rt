@@ -15,14 +15,13 @@ pub mod errors;
 mod fault;
 pub mod flags;
 mod flow_mod;
-pub mod kinds;
 mod laws;
 mod packet;
 pub mod ports;
 mod reading;
 pub mod reasons;
 #[cfg(test)]
-mod vectors;
+mod tests;
 mod writing;
 
 pub use command::Command;
@@ -31,6 +30,7 @@ pub use fault::ModFault;
 pub use flow_mod::{FlowMod, RawActions};
 pub use laws::reading_is_a_function;
 pub use mon_list::OutOfMemory;
+pub use of_frame::kinds;
 pub use packet::{NO_BUFFER, OWN_XID, PacketIn, packet_out, read_packet_in};
 pub use reading::{read_features, read_flow_mod, read_miss_length};
 pub use writing::write_flow_mod;

@@ -1,13 +1,14 @@
 //! Packets that a switch sends to its controller, and those that it is told to send out.
 
 ghost use Rattle.std.specs.Prelude.{◌≡◌, ◌≤◌, ◌<◌, length, MatchOption, IfOk};
+ghost use Rattle.of_msgs.specs.Absent as absent;
 ghost use Rattle.of_msgs.specs.Layout.{IsPacketIn, IsPacketOut, output_to, own_xid, packet_out_of};
 
-use crate::kinds::PACKET_OUT;
 use crate::ports;
 use mon_fields::u16_at;
 use mon_list::OutOfMemory;
 use of_frame::Frame;
+use of_frame::kinds::PACKET_OUT;
 use std::alloc::Global;
 
 /// The transaction id of the monitor's own frames.
@@ -46,7 +47,7 @@ pub fn read_packet_in(frame: &Frame) -> Option<PacketIn<'_>>
 pub fn packet_out(alloc: Global, port: u16, content: &[u8]) -> Result<Frame, OutOfMemory>
     requires { length content.now ≤ 128 }
     ensures bytes { IfOk result (λ frame. frame ≡ packet_out_of port content.now) }
-    ensures fields { IfOk result (λ frame. IsPacketOut frame own_xid 4294967295 65535 (output_to port) content.now) }
+    ensures fields { IfOk result (λ frame. IsPacketOut frame own_xid absent.NO_BUFFER absent.NO_PORT (output_to port) content.now) }
 {
     let mut body = Vec::with_capacity(alloc, 16 + content.len())?;
     body.extend_from_slice(&NO_BUFFER.to_be_bytes())?;

@@ -5,10 +5,10 @@ ghost use Rattle.of_msgs.specs.FlowMods.{FitsMod, IsFlowMod, flow_mod_of, fields
 
 use crate::command::number_of;
 use crate::flow_mod::FlowMod;
-use crate::kinds::FLOW_MOD;
 use byteorder::{BigEndian, ByteOrder};
 use mon_list::OutOfMemory;
 use of_frame::Frame;
+use of_frame::kinds::FLOW_MOD;
 use std::alloc::Global;
 
 /// The fields between the match and the actions.

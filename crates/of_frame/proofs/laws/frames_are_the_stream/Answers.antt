@@ -1,5 +1,5 @@
 use Rattle.of_frame.proofs.Stream.{stream-into}
-use Rattle.of_frame.proofs.cutter.frames_are_the_stream.Goals as goal
+use Rattle.of_frame.proofs.laws.frames_are_the_stream.Goals as goal
 
 pub returns : goal.returns
 returns c = stream-into
