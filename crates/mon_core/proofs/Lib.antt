@@ -1,5 +1,4 @@
 pub mod Refusing
-pub mod Parting
 pub mod Sends
 pub mod Turns
 pub mod Ending

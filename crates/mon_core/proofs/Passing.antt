@@ -1,15 +1,15 @@
 -- In a legal history each frame has its fate: what was put to a side, and what is owed to it, is what the streams say.
 use Rattle.std.proofs.Common.{◌≡◌, ℕ, ◌<◌, Bool, true, false, cond, List, [], ◌∷◌, ◌++◌, length, set, Option, Some, None, refl, sym, ap, subst, ◌∙◌, append_assoc, inl, inr}
-use Rattle.std.specs.Prelude.{not, ◌==◌, ◌&&◌}
+use Rattle.std.specs.Prelude.{not, ◌==◌, ◌&&◌, flat_map}
 use Rattle.std.proofs.lemmas.List.{append-nil}
 use Rattle.std.proofs.lemmas.Bool.{eq-eqb}
+use Rattle.std.proofs.lemmas.Grind.{flat_map-append}
 use Rattle.of_frame.specs.declared.fault.FrameFault.{FrameFault}
 use Rattle.of_frame.specs.Cut.{Pending, nothing_yet, cut}
 use Rattle.of_frame.proofs.Pieces.{cut-append}
 use Rattle.mon_table.specs.declared.rule.Rule.{Rule}
 use Rattle.mon_table.specs.declared.edit.Edit.{Edit}
-use Rattle.mon_table.specs.Edits.{after}
-use Rattle.mon_edits.specs.Laws.{after_all}
+use Rattle.mon_table.specs.Edits.{after, after_all}
 use Rattle.mon_world.specs.declared.event.Side.{Side}
 use Rattle.mon_world.specs.declared.event.Side.TheVariants.{Controller, Switch}
 use Rattle.mon_world.specs.declared.event.Event.TheVariants.{Opened, Piece, Stop}
@@ -17,7 +17,7 @@ use Rattle.mon_world.specs.declared.event.Out.{Out}
 use Rattle.mon_world.specs.declared.event.Out.TheVariants.{Send, Close}
 use Rattle.mon_world.specs.declared.history.Entry.{Entry}
 use Rattle.mon_world.specs.declared.history.Entry.TheVariants.{Given, Put, End}
-use Rattle.mon_core.specs.Fates.{passed, errors, edits, followed, followed_all, passed_all, errors_all, edits_all}
+use Rattle.mon_core.specs.Fates.{Fated, fated, fates, passed, errors, edits, followed, followed_all, passed_all, errors_all, edits_all}
 use Rattle.mon_core.specs.History.{Sides, pending_of, completed, fault_after, after_piece, closed, sent, ending, from_frame, from_frames, from_side, from_piece, session_at, sessions, owed, rest_of, IsFirst, LegalSoFar, Legal, Named}
 use Rattle.mon_core.specs.Streams.{same_side, has_ended, stream, puts, frames_in, expected, brought_in}
 use Rattle.mon_core.proofs.Ending.{set-at, session-opened, ended-is, opened-in, first-within, owed-within}
@@ -27,19 +27,38 @@ after-append : (t : List Rule) (a b : List Edit) → after_all t (a ++ b) ≡ af
 after-append t [] b = refl
 after-append t (x ∷ a) b = after-append (after t x) a b
 
-followed-edits : (t : List Rule) (fs : List (List ℕ)) → followed_all t fs ≡ after_all t (edits_all t fs)
-followed-edits t [] = refl
-followed-edits t (f ∷ fs) = followed-edits (followed t f) fs ∙ sym (after-append t (edits t f) (edits_all (followed t f) fs))
+-- the table after one frame, and then others
+followed-one : (t : List Rule) (f : List ℕ) (fs : List (List ℕ)) → followed_all t (f ∷ fs) ≡ followed_all (followed t f) fs
+followed-one t f fs = after-append t (edits (fated t f)) (edits_all (followed t f) fs)
+
+fates-append : (t : List Rule) (a b : List (List ℕ)) → fates t (a ++ b) ≡ fates t a ++ fates (followed_all t a) b
+fates-append t [] b = refl
+fates-append t (f ∷ a) b =
+    ap (λ (xs : List Fated). fated t f ∷ xs) (fates-append (followed t f) a b)
+    ∙ ap (λ (u : List Rule). fates t (f ∷ a) ++ fates u b) (sym (followed-one t f a))
 
 followed-append : (t : List Rule) (a b : List (List ℕ)) → followed_all t (a ++ b) ≡ followed_all (followed_all t a) b
-followed-append t [] b = refl
-followed-append t (f ∷ a) b = followed-append (followed t f) a b
+followed-append t a b =
+    let more = fates (followed_all t a) b in
+    ap (λ (xs : List Fated). after_all t (flat_map edits xs)) (fates-append t a b)
+    ∙ ap (after_all t) (flat_map-append edits (fates t a) more)
+    ∙ after-append t (edits_all t a) (flat_map edits more)
 
 passed-append : (t : List Rule) (a b : List (List ℕ)) → passed_all t (a ++ b) ≡ passed_all t a ++ passed_all (followed_all t a) b
-passed-append t [] b = refl
-passed-append t (f ∷ a) b =
-    ap (λ (xs : List (List ℕ)). passed t f ++ xs) (passed-append (followed t f) a b)
-    ∙ sym (append_assoc (passed t f) (passed_all (followed t f) a) (passed_all (followed_all (followed t f) a) b))
+passed-append t a b = ap (flat_map passed) (fates-append t a b) ∙ flat_map-append passed (fates t a) (fates (followed_all t a) b)
+
+-- one frame more of those that come
+pub handled-more : (n : ℕ) (t after end : List Rule) (frames rest : List (List ℕ)) (frame : List ℕ) (outs more all : List Out)
+    → frames ≡ frame ∷ rest → more ≡ outs ++ from_frame n t frame → after ≡ followed t frame → outs ++ from_frames n t frames ≡ all → followed_all t frames ≡ end
+    → (more ++ from_frames n after rest ≡ all) × (followed_all after rest ≡ end)
+handled-more n t after end frames rest frame outs more all split put next so_far before = (
+  ap (λ (xs : List Out). xs ++ from_frames n after rest) put
+      ∙ ap (λ (u : List Rule). (outs ++ from_frame n t frame) ++ from_frames n u rest) next
+      ∙ append_assoc outs (from_frame n t frame) (from_frames n (followed t frame) rest)
+      ∙ ap (λ (fs : List (List ℕ)). outs ++ from_frames n t fs) (sym split)
+      ∙ so_far,
+  ap (λ (u : List Rule). followed_all u rest) next ∙ sym (followed-one t frame rest) ∙ ap (followed_all t) (sym split) ∙ before,
+)
 
 -- the frames among outputs that go to a side
 abbrev frames_for : ℕ → Side → List Out → List (List ℕ)
@@ -79,32 +98,32 @@ elsewhere : (n : ℕ) (a b : Side) → same_side a b ≡ false → ((n == n) && 
 elsewhere n a b e = elim (n == n) as (λ t. (t && same_side a b) ≡ false) [ true ↦ e | false ↦ refl ]
 
 -- what frames of the controller lead to, at each side
-to-switch : (n : ℕ) (t : List Rule) (f : List ℕ) → frames_for n Switch (from_frame n t f) ≡ passed t f
+to-switch : (n : ℕ) (t : List Rule) (f : List ℕ) → frames_for n Switch (from_frame n t f) ≡ passed (fated t f)
 to-switch n t f =
-    for-append n Switch (sent n Switch (passed t f)) (sent n Controller (errors t f))
-    ∙ ap (λ (xs : List (List ℕ)). xs ++ frames_for n Switch (sent n Controller (errors t f))) (for-sent n Switch (passed t f))
-    ∙ ap (λ (xs : List (List ℕ)). passed t f ++ xs) (for-others n n Switch Controller (errors t f) (elsewhere n Controller Switch refl))
-    ∙ append-nil (passed t f)
+    for-append n Switch (sent n Switch (passed (fated t f))) (sent n Controller (errors (fated t f)))
+    ∙ ap (λ (xs : List (List ℕ)). xs ++ frames_for n Switch (sent n Controller (errors (fated t f)))) (for-sent n Switch (passed (fated t f)))
+    ∙ ap (λ (xs : List (List ℕ)). passed (fated t f) ++ xs) (for-others n n Switch Controller (errors (fated t f)) (elsewhere n Controller Switch refl))
+    ∙ append-nil (passed (fated t f))
 
-to-controller : (n : ℕ) (t : List Rule) (f : List ℕ) → frames_for n Controller (from_frame n t f) ≡ errors t f
+to-controller : (n : ℕ) (t : List Rule) (f : List ℕ) → frames_for n Controller (from_frame n t f) ≡ errors (fated t f)
 to-controller n t f =
-    for-append n Controller (sent n Switch (passed t f)) (sent n Controller (errors t f))
-    ∙ ap (λ (xs : List (List ℕ)). xs ++ frames_for n Controller (sent n Controller (errors t f))) (for-others n n Controller Switch (passed t f) (elsewhere n Switch Controller refl))
-    ∙ for-sent n Controller (errors t f)
+    for-append n Controller (sent n Switch (passed (fated t f))) (sent n Controller (errors (fated t f)))
+    ∙ ap (λ (xs : List (List ℕ)). xs ++ frames_for n Controller (sent n Controller (errors (fated t f)))) (for-others n n Controller Switch (passed (fated t f)) (elsewhere n Switch Controller refl))
+    ∙ for-sent n Controller (errors (fated t f))
 
 all-to-switch : (n : ℕ) (t : List Rule) (fs : List (List ℕ)) → frames_for n Switch (from_frames n t fs) ≡ passed_all t fs
 all-to-switch n t [] = refl
 all-to-switch n t (f ∷ fs) =
     for-append n Switch (from_frame n t f) (from_frames n (followed t f) fs)
     ∙ ap (λ (xs : List (List ℕ)). xs ++ frames_for n Switch (from_frames n (followed t f) fs)) (to-switch n t f)
-    ∙ ap (λ (xs : List (List ℕ)). passed t f ++ xs) (all-to-switch n (followed t f) fs)
+    ∙ ap (λ (xs : List (List ℕ)). passed (fated t f) ++ xs) (all-to-switch n (followed t f) fs)
 
 all-to-controller : (n : ℕ) (t : List Rule) (fs : List (List ℕ)) → frames_for n Controller (from_frames n t fs) ≡ errors_all t fs
 all-to-controller n t [] = refl
 all-to-controller n t (f ∷ fs) =
     for-append n Controller (from_frame n t f) (from_frames n (followed t f) fs)
     ∙ ap (λ (xs : List (List ℕ)). xs ++ frames_for n Controller (from_frames n (followed t f) fs)) (to-controller n t f)
-    ∙ ap (λ (xs : List (List ℕ)). errors t f ++ xs) (all-to-controller n (followed t f) fs)
+    ∙ ap (λ (xs : List (List ℕ)). errors (fated t f) ++ xs) (all-to-controller n (followed t f) fs)
 
 -- what frames of either side lead to, at each side
 abbrev at_side : Side → Side → List Rule → List (List ℕ) → List (List ℕ)
@@ -126,9 +145,9 @@ none-of-frames n m to t (f ∷ fs) e =
     let off : (side : Side) → ((m == n) && same_side side to) ≡ false = λ side. rw e refl in
     for-append n to (from_frame m t f) (from_frames m (followed t f) fs)
     ∙ ap (λ (xs : List (List ℕ)). xs ++ frames_for n to (from_frames m (followed t f) fs))
-    (for-append n to (sent m Switch (passed t f)) (sent m Controller (errors t f))
-    ∙ ap (λ (xs : List (List ℕ)). xs ++ frames_for n to (sent m Controller (errors t f))) (for-others n m to Switch (passed t f) (off Switch))
-    ∙ for-others n m to Controller (errors t f) (off Controller))
+    (for-append n to (sent m Switch (passed (fated t f))) (sent m Controller (errors (fated t f)))
+    ∙ ap (λ (xs : List (List ℕ)). xs ++ frames_for n to (sent m Controller (errors (fated t f)))) (for-others n m to Switch (passed (fated t f)) (off Switch))
+    ∙ for-others n m to Controller (errors (fated t f)) (off Controller))
     ∙ none-of-frames n m to (followed t f) fs e
 
 none-of-side : (n m : ℕ) (to from : Side) (t : List Rule) (fs : List (List ℕ)) → (m == n) ≡ false → frames_for n to (from_side m t from fs) ≡ []
@@ -227,7 +246,7 @@ own-controller n c w t false Controller bytes sc sw ps bs st e =
     let fs = (cut c bytes).1 in
     ap (λ (xs : List (List ℕ)). xs ++ frames_for n Controller (from_piece n s Controller bytes)) e
     ∙ ap (λ (xs : List (List ℕ)). bs ++ xs) (for-piece n n Controller s Controller bytes ∙ for-side n Controller Controller t fs
-    ∙ ap (λ (u : List Rule). errors_all u fs) (st.table ∙ followed-edits [] (cut nothing_yet sc).1)
+    ∙ ap (λ (u : List Rule). errors_all u fs) st.table
     ∙ ap (λ (p : Pending). errors_all (after_all [] (edits_all [] (cut nothing_yet sc).1)) (cut p bytes).1) st.controller)
 own-controller n c w t false Switch bytes sc sw ps bs st e =
     let s : Sides = record { controller = c; switch = w; table = t; ended = false } in
@@ -388,4 +407,4 @@ pending-is n Switch h named legal = (passing n h named legal).standing.switch
 
 -- the session has the expected table
 pub table-is : (n : ℕ) (h : List Entry) → Named h → LegalSoFar h → (session_at (sessions h) n).table ≡ expected n h
-table-is n h named legal = (passing n h named legal).standing.table ∙ followed-edits [] (frames_in n Controller h)
+table-is n h named legal = (passing n h named legal).standing.table

@@ -1,6 +1,7 @@
 -- The fate of a frame that is answered by an ERROR.
 use Rattle.std.proofs.Common.{◌≡◌, ◌≢◌, ℕ, false, List, [], Some, Result, Ok, Err, sym, subst, ◌∙◌, ◌⊎◌, inl, inr}
 use Rattle.std.specs.Prelude.{IfOk}
+use Rattle.of_frame.specs.Kinds.{FLOW_MOD}
 use Rattle.of_frame.specs.Header.{kind_of}
 use Rattle.mon_table.specs.declared.rule.Rule.{Rule}
 use Rattle.of_msgs.specs.declared.fault.ModFault.{ModFault}
@@ -23,7 +24,7 @@ refused-is (Ok x) refused t catching m calm none (inr e) value memory =
     let first : refusal t [] 0 m ≡ Some refused = subst (λ (c : List Rule). refusal t c 0 m ≡ Some refused) none e in
     rw (calm, first) value
 
-pub unread-is : {E : Type 0} (r : Result Fate E) (answer : Result FlowMod ModFault) (fault : ModFault) (t : List Rule) (frame : List ℕ) → kind_of frame ≡ 14 → answer ≡ Err fault
+pub unread-is : {E : Type 0} (r : Result Fate E) (answer : Result FlowMod ModFault) (fault : ModFault) (t : List Rule) (frame : List ℕ) → kind_of frame ≡ FLOW_MOD → answer ≡ Err fault
     → (answer ≡ Err faults.OutOfMemory) ⊎ (answer ≡ flow_mod_in frame)
     → IfOk r (λ found. found ≡ of_fault fault) → IfOk r (λ found. fault ≢ faults.OutOfMemory) → IfOk r (λ found. found ≡ fate t frame)
 unread-is (Err x) answer fault t frame kind is read value memory = tt

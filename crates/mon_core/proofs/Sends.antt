@@ -5,7 +5,7 @@ use Rattle.mon_world.specs.declared.event.Side.{Side}
 use Rattle.mon_world.specs.declared.event.Side.TheVariants.{Controller, Switch}
 use Rattle.mon_world.specs.declared.event.Out.{Out}
 use Rattle.mon_world.specs.declared.event.Out.TheVariants.{Send, Close}
-use Rattle.mon_core.specs.Fates.{passed, errors, followed}
+use Rattle.mon_core.specs.Fates.{fated, passed, errors, followed}
 use Rattle.mon_core.specs.History.{sent, from_frame, from_frames, from_side}
 
 -- each output is a frame
@@ -27,7 +27,7 @@ sends-frames : (n : ℕ) (t : List Rule) (frames : List (List ℕ)) → AllSends
 sends-frames n t [] = tt
 sends-frames n t (frame ∷ frames) =
     sends-append (from_frame n t frame) (from_frames n (followed t frame) frames)
-    (sends-append (sent n Switch (passed t frame)) (sent n Controller (errors t frame)) (sends-sent n Switch (passed t frame)) (sends-sent n Controller (errors t frame)))
+    (sends-append (sent n Switch (passed (fated t frame))) (sent n Controller (errors (fated t frame))) (sends-sent n Switch (passed (fated t frame))) (sends-sent n Controller (errors (fated t frame))))
     (sends-frames n (followed t frame) frames)
 
 pub sends-side : (n : ℕ) (t : List Rule) (from : Side) (frames : List (List ℕ)) → AllSends (from_side n t from frames)

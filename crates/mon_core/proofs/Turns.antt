@@ -1,5 +1,5 @@
 -- What a turn adds to a history.
-use Rattle.std.proofs.Common.{◌≡◌, ℕ, zero, suc, ◌+◌, ◌<◌, Bool, true, false, List, [], ◌∷◌, ◌++◌, Option, Some, None, length, set, take, drop, refl, sym, ap, subst, ◌∙◌, arith}
+use Rattle.std.proofs.Common.{◌≡◌, ℕ, zero, suc, ◌+◌, ◌<◌, Bool, true, false, List, [], ◌∷◌, ◌++◌, Option, Some, None, length, set, take, drop, refl, sym, ap, subst, ◌∙◌, add-zero, arith}
 use Rattle.std.specs.Prelude.{slice_set, IfSome, OnOk, OnErr, Result, Ok, Err}
 use Rattle.std.proofs.lemmas.List.{append-nil, get_or-set_same, take-append-drop, length-append}
 use Rattle.std.proofs.Math.ListN.{length-set}
@@ -18,7 +18,7 @@ use Rattle.mon_world.specs.declared.history.Entry.TheVariants.{Given, Put, End}
 use Rattle.mon_world.specs.Logs.{entry_of, longer, opened_by, opened_in, NamesOpened, inputs, IsStop, NoStop, StopsNow}
 use Rattle.mon_core.proofs.Ending.{opened-in}
 use Rattle.mon_core.proofs.Sends.{AllSends, sends-side}
-use Rattle.mon_core.specs.History.{Sides, fresh, closed, grown, controller_after, switch_after, table_after, completed, fault_after, after_piece, after_turn, from_side, from_piece, ending, session_at, on_event, sessions, owed, rest_of, IsFirst, LegalSoFar, Legal, Named, StandsFor, WasGiven, onto, logged, Ran, RanToStop}
+use Rattle.mon_core.specs.History.{Sides, fresh, closed, grown, controller_after, switch_after, table_after, completed, fault_after, after_piece, after_turn, from_side, from_piece, ending, session_at, on_event, sessions, owed, rest_of, IsFirst, LegalSoFar, Legal, Named, StandsFor, WasGiven, onto, logged, Came, Ran, RanToStop}
 
 pub onto-more : (outs : List Out) (out : Out) (h : List Entry) → onto (outs ++ out ∷ []) h ≡ entry_of out ∷ onto outs h
 onto-more [] out h = refl
@@ -194,21 +194,45 @@ pub carried-put : {A E : Type 0} (r : Result A E) (slice : List Out) (old new : 
 carried-put (Ok x) slice old new ok err = (slice, ok)
 carried-put (Err x) slice old new ok err = (take err.0 slice, err.1)
 
+-- what is put goes in front of all entries
+onto-append : (outs : List Out) (entries h : List Entry) → onto outs (entries ++ h) ≡ onto outs entries ++ h
+onto-append [] entries h = refl
+onto-append (o ∷ outs) entries h = onto-append outs (entry_of o ∷ entries) h
+
+came-on : (entries h k : List Entry) (event : Event) (outs : List Out) → Came entries h k → Came (onto outs (Given event ∷ entries)) h (onto outs (Given event ∷ k))
+came-on entries h k event outs came =
+    ap (λ (x : List Entry). onto outs (Given event ∷ x)) came ∙ onto-append outs (Given event ∷ entries) h
+
+-- no event yet
+pub ran-none : (log : Option (List Entry)) → Ran log log 0
+ran-none None = refl
+ran-none (Some h) = (sym (add-zero (length (inputs h))), (λ none. none), [], refl, refl, tt)
+
 -- one event more that is not Stop
 pub ran-on : (first now : Option (List Entry)) (turns : ℕ) (event : Event) (outs : List Out) → Ran first now turns → (IsStop event → ⊥) → Ran first (logged outs (longer (Given event) now)) (turns + 1)
 ran-on None None turns event outs ran not_stop = refl
 ran-on None (Some k) turns event outs ran not_stop = absurd cc
 ran-on (Some h) None turns event outs ran not_stop = absurd ran
-ran-on (Some h) (Some k) turns event outs ran not_stop =
-    let e : inputs (onto outs (Given event ∷ k)) ≡ event ∷ inputs k = inputs-onto outs (Given event ∷ k) in (
-      ap length e ∙ (let n : suc (length (inputs k)) ≡ length (inputs h) + (turns + 1) = omega (arith, ran.0) in n),
-      λ none. subst NoStop (sym e) (not_stop, ran.1 none),
+ran-on (Some h) (Some k) turns event outs (count, none, entries, came, new, none_new) not_stop =
+    let e : inputs (onto outs (Given event ∷ k)) ≡ event ∷ inputs k = inputs-onto outs (Given event ∷ k) in
+    let e' : inputs (onto outs (Given event ∷ entries)) ≡ event ∷ inputs entries = inputs-onto outs (Given event ∷ entries) in (
+      ap length e ∙ (let n : suc (length (inputs k)) ≡ length (inputs h) + (turns + 1) = omega (arith, count) in n),
+      (λ before. subst NoStop (sym e) (not_stop, none before)),
+      onto outs (Given event ∷ entries),
+      came-on entries h k event outs came,
+      ap length e' ∙ (let n : suc (length (inputs entries)) ≡ turns + 1 = omega (arith, new) in n),
+      subst NoStop (sym e') (not_stop, none_new),
     )
 
 pub ran-to_stop : (first now : Option (List Entry)) (turns : ℕ) (event : Event) (outs : List Out) → Ran first now turns → IsStop event → RanToStop first (logged outs (longer (Given event) now))
 ran-to_stop None None turns event outs ran stop = refl
 ran-to_stop None (Some k) turns event outs ran stop = absurd cc
 ran-to_stop (Some h) None turns event outs ran stop = absurd ran
-ran-to_stop (Some h) (Some k) turns event outs ran stop =
+ran-to_stop (Some h) (Some k) turns event outs (count, none, entries, came, new, none_new) stop =
     let e : inputs (onto outs (Given event ∷ k)) ≡ event ∷ inputs k = inputs-onto outs (Given event ∷ k) in
-    λ none. subst StopsNow (sym e) (stop, ran.1 none)
+    let e' : inputs (onto outs (Given event ∷ entries)) ≡ event ∷ inputs entries = inputs-onto outs (Given event ∷ entries) in (
+      (λ before. subst StopsNow (sym e) (stop, none before)),
+      onto outs (Given event ∷ entries),
+      came-on entries h k event outs came,
+      subst StopsNow (sym e') (stop, none_new),
+    )

@@ -1,5 +1,5 @@
 -- What the history says of each session, what is owed to it, and which histories are legal. The newest entry is first.
-use Rattle.std.specs.Prelude.{◌≡◌, ℕ, suc, ◌+◌, ◌<◌, Bool, true, false, List, [], ◌∷◌, ◌++◌, length, slice_index_or, slice_set, Option, Some, None, if◌then◌else◌}
+use Rattle.std.specs.Prelude.{◌≡◌, ℕ, suc, ◌+◌, ◌<◌, Bool, true, false, List, [], ◌∷◌, ◌++◌, flat_map, length, slice_index_or, slice_set, Option, Some, None, if◌then◌else◌}
 use Rattle.std.specs.Option.{is_some}
 use Rattle.of_frame.specs.declared.fault.FrameFault.{FrameFault}
 use Rattle.of_frame.specs.Cut.{Pending, nothing_yet, cut}
@@ -13,7 +13,7 @@ use Rattle.mon_world.specs.declared.history.Entry.{Entry}
 use Rattle.mon_world.specs.declared.history.Entry.TheVariants.{Given, Put, End}
 use Rattle.mon_table.specs.declared.rule.Rule.{Rule}
 use Rattle.mon_world.specs.Logs.{entry_of, inputs, opened_in, NoStop, StopsNow}
-use Rattle.mon_core.specs.Fates.{passed, errors, followed, followed_all}
+use Rattle.mon_core.specs.Fates.{Fated, fated, fates, passed, errors, followed_all}
 
 -- what has come of both sides of a session, the table of the entries that the controller has on the switch, and whether
 -- the session ended
@@ -93,14 +93,17 @@ abbrev pub ending : ℕ → Option FrameFault → List Out
 ending n None = []
 ending n (Some fault) = Close n ∷ []
 
--- what a frame of the controller leads to, by the table: frames for the switch, or an ERROR for the controller
-abbrev pub from_frame : ℕ → List Rule → List ℕ → List Out
-from_frame n t frame = sent n Switch (passed t frame) ++ sent n Controller (errors t frame)
+-- what a frame of the controller leads to, by its fate: frames for the switch, or an ERROR for the controller
+abbrev pub from_fated : ℕ → Fated → List Out
+from_fated n x = sent n Switch (passed x) ++ sent n Controller (errors x)
 
--- each over the table that those before it leave
+-- by the table
+abbrev pub from_frame : ℕ → List Rule → List ℕ → List Out
+from_frame n t frame = from_fated n (fated t frame)
+
+-- what frames in order lead to
 abbrev pub from_frames : ℕ → List Rule → List (List ℕ) → List Out
-from_frames n t [] = []
-from_frames n t (frame ∷ frames) = from_frame n t frame ++ from_frames n (followed t frame) frames
+from_frames n t frames = flat_map (from_fated n) (fates t frames)
 
 -- what frames of a side lead to: those of the switch go to the controller
 abbrev pub from_side : ℕ → List Rule → Side → List (List ℕ) → List Out
@@ -187,17 +190,27 @@ abbrev pub logged : List Out → Option (List Entry) → Option (List Entry)
 logged outs None = None
 logged outs (Some h) = Some (onto outs h)
 
--- from the first log to the log now so many events came, none of them Stop
+-- entries came in front of the first log, the newest first, and the log now is both
+abbrev pub Came : List Entry → List Entry → List Entry → Type 0
+Came entries h k = k ≡ entries ++ h
+
+-- from the first log to the log now so many events came, and none of these was Stop; so the whole log has so many more,
+-- and still no Stop where it had none
 abbrev pub Ran : Option (List Entry) → Option (List Entry) → ℕ → Type 0
 Ran None now turns = now ≡ None
 Ran (Some h) None turns = ⊥
-Ran (Some h) (Some k) turns = (length (inputs k) ≡ length (inputs h) + turns) × (NoStop (inputs h) → NoStop (inputs k))
+Ran (Some h) (Some k) turns =
+    (length (inputs k) ≡ length (inputs h) + turns)
+    × (NoStop (inputs h) → NoStop (inputs k))
+    × (entries : List Entry) × Came entries h k × (length (inputs entries) ≡ turns) × NoStop (inputs entries)
 
--- from the first log to the log now, the last event and no other was Stop
+-- from the first log to the log now events came, of which the last and no other was Stop; so Stop is the last event of
+-- the whole log, and no other where it had none
 abbrev pub RanToStop : Option (List Entry) → Option (List Entry) → Type 0
 RanToStop None now = now ≡ None
 RanToStop (Some h) None = ⊥
-RanToStop (Some h) (Some k) = NoStop (inputs h) → StopsNow (inputs k)
+RanToStop (Some h) (Some k) =
+    (NoStop (inputs h) → StopsNow (inputs k)) × (entries : List Entry) × Came entries h k × StopsNow (inputs entries)
 
 -- the number and the table of each session that has not ended, by rising number from a first one on
 abbrev pub armed_from : ℕ → List Sides → List (ℕ × List Rule)

@@ -10,7 +10,7 @@ use Rattle.mon_world.specs.declared.history.Entry.TheVariants.{Given, Put, End}
 use Rattle.mon_world.specs.Logs.{opened_in}
 use Rattle.mon_table.specs.declared.rule.Rule.{Rule}
 use Rattle.mon_table.specs.declared.edit.Edit.{Edit}
-use Rattle.mon_edits.specs.Laws.{after_all}
+use Rattle.mon_table.specs.Edits.{after_all}
 use Rattle.mon_core.specs.Fates.{passed_all, errors_all, edits_all}
 
 abbrev pub same_side : Side → Side → Bool

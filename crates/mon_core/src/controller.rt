@@ -1,66 +1,20 @@
 //! What frames of the controller lead to.
 
-ghost use Rattle.std.specs.Prelude.{◌≡◌, ◌++◌, true, false, OnOk};
-ghost use Rattle.std.specs.List.{AllByRecursion};
-ghost use Rattle.mon_world.specs.declared.event.Side.TheVariants.{Switch};
-ghost use Rattle.mon_edits.specs.Naming.{is_emergency, is_deletion};
-ghost use Rattle.mon_edits.specs.Frames.{is_cut};
+ghost use Rattle.std.specs.Prelude.{◌≡◌, ◌++◌, OnOk};
 ghost use Rattle.mon_table.specs.Rules.{identity_of};
 ghost use Rattle.mon_table.specs.Tables.{with_rule, without};
-ghost use Rattle.mon_table.specs.Edits.{after};
-ghost use Rattle.mon_edits.specs.Laws.{after_all};
-ghost use Rattle.mon_core.specs.Fates.{parts, frames_of, followed, followed_all};
-ghost use Rattle.mon_core.specs.History.{sent, from_frame, from_frames};
+ghost use Rattle.mon_table.specs.Edits.{after, after_all};
+ghost use Rattle.mon_core.specs.Fates.{followed, followed_all};
+ghost use Rattle.mon_core.specs.History.{from_frame, from_frames};
 
 use crate::fate::{Fate, fate_of};
-use crate::outputs::push;
-use mon_edits::{Edit, Edits, edits_suit_the_command, frame_of};
+use crate::outputs::{push, push_all};
+use mon_edits::{Edit, Edits, edits_suit_the_command, frames_of};
 use mon_table::{Rule, Table};
 use mon_world::{Out, OutOfMemory, Side};
 use of_frame::{Frame, Frames};
-use of_msgs::{Command, FlowMod, error_frame};
+use of_msgs::error_frame;
 use std::alloc::Global;
-
-/// Adds a frame for each edit of a message that is no ADD. The first bears the message's buffer.
-fn push_parts(
-    alloc: Global,
-    number: u64,
-    m: &FlowMod,
-    edits: &[Edit],
-    outs: &mut Vec<Out>,
-) -> Result<(), OutOfMemory>
-    requires calm { is_emergency m.now ≡ false }
-    requires kind { AllByRecursion (λ e. is_cut e ≡ is_deletion m.now.command) edits.now }
-    ensures { OnOk result (outs.new.items ≡ outs.old.items ++ sent number Switch (parts m.now true edits.now)) }
-{
-    let mut first = true;
-    for edit in edits {
-        let frame = frame_of(alloc, m, edit, first)?;
-        push(number, Side::Switch, frame, outs)?;
-        first = false;
-    }
-    Ok(())
-}
-
-/// Adds what goes to the switch for a message that has its edits.
-fn push_mod(
-    alloc: Global,
-    number: u64,
-    frame: Frame,
-    m: &FlowMod,
-    edits: &[Edit],
-    outs: &mut Vec<Out>,
-) -> Result<(), OutOfMemory>
-    requires calm { is_emergency m.now ≡ false }
-    requires kind { AllByRecursion (λ e. is_cut e ≡ is_deletion m.now.command) edits.now }
-    ensures { OnOk result (outs.new.items ≡ outs.old.items ++ sent number Switch (frames_of m.now edits.now frame)) }
-{
-    match m.command {
-        Command::Add => push(number, Side::Switch, frame, outs),
-        Command::Modify | Command::ModifyStrict => push_parts(alloc, number, m, edits, outs),
-        Command::Delete | Command::DeleteStrict => push_parts(alloc, number, m, edits, outs),
-    }
-}
 
 /// Puts a rule into a table.
 fn put(table: &mut Table, rule: Rule) -> Result<(), OutOfMemory>
@@ -118,7 +72,8 @@ fn handle(
         }
         Fate::Edited { message, edits } => {
             edits_suit_the_command();
-            push_mod(alloc, number, frame, &message, edits.items(), outs)?;
+            let frames = frames_of(alloc, &message, edits.items(), frame)?;
+            push_all(number, Side::Switch, frames, outs)?;
             follow(table, edits)
         }
     }

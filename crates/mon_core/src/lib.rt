@@ -18,12 +18,15 @@
 #![tactic(auto)]
 
 mod controller;
-mod end;
 mod fate;
-mod machine;
+mod laws;
 mod outputs;
+mod run;
 mod session;
+mod sessions;
+mod turn;
 
-pub use end::{LoopEnd, TurnEnd};
-pub use machine::{Core, legal_passes_frames, run_loop};
+pub use laws::legal_passes_frames;
 pub use mon_world::OutOfMemory;
+pub use run::{LoopEnd, run_loop};
+pub use sessions::Core;

@@ -9,7 +9,7 @@ use Rattle.mon_table.specs.declared.edit.Edit.{Edit}
 use Rattle.mon_table.specs.declared.edit.Edit.TheVariants.{Put}
 use Rattle.mon_table.specs.Rules.{identity_of, same_identity, comes_before}
 use Rattle.mon_table.specs.Tables.{InOrder, rule_of, is_named}
-use Rattle.mon_table.specs.Edits.{after}
+use Rattle.mon_table.specs.Edits.{after, after_all}
 use Rattle.mon_table.proofs.Identities.{before-other}
 use Rattle.mon_table.proofs.Keeping.{order-filter}
 use Rattle.mon_table.proofs.Listing.{has-all}
@@ -19,7 +19,7 @@ use Rattle.of_msgs.specs.declared.command.Command.TheVariants.{Add, Modify, Modi
 use Rattle.of_msgs.specs.declared.flow_mod.FlowMod.{FlowMod}
 use Rattle.mon_edits.specs.Naming.{is_add, is_deletion, named_by, named, is_none, adds_entry}
 use Rattle.mon_edits.specs.Edits.{rule_in, changed_rule, changed, or_added, edits_by, edits_of}
-use Rattle.mon_edits.specs.Laws.{after_all, IsOther, IsChanged, changes_entries}
+use Rattle.mon_edits.specs.Laws.{IsOther, IsChanged, changes_entries}
 use Rattle.mon_edits.proofs.Members.{AllOther, other-each, none-other, has-named}
 
 -- a message that adds

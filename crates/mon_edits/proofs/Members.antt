@@ -9,7 +9,7 @@ use Rattle.mon_table.specs.declared.edit.Edit.{Edit}
 use Rattle.mon_table.specs.declared.edit.Edit.TheVariants.{Cut}
 use Rattle.mon_table.specs.Rules.{Identity, identity_of, same_identity}
 use Rattle.mon_table.specs.Tables.{InOrder, rule_of, is_named}
-use Rattle.mon_table.specs.Edits.{after}
+use Rattle.mon_table.specs.Edits.{after, after_all}
 use Rattle.mon_table.proofs.Identities.{same-self}
 use Rattle.mon_table.proofs.Members.{has-filter, filter-has, after-members, members-after, one-rule}
 use Rattle.of_msgs.specs.declared.command.Command.{Command}
@@ -18,7 +18,7 @@ use Rattle.of_msgs.specs.declared.flow_mod.FlowMod.{FlowMod}
 use Rattle.mon_edits.specs.Naming.{is_deletion, named_by, named}
 use Rattle.mon_edits.specs.Edits.{changed, or_added, is_taken, taken, edits_by, edits_of}
 use Rattle.mon_edits.specs.Frames.{is_cut}
-use Rattle.mon_edits.specs.Laws.{after_all, IsTaken}
+use Rattle.mon_edits.specs.Laws.{IsTaken}
 
 -- each edit takes an entry out, or none does
 all-cut : (rs : List Rule) → AllByRecursion (λ e. is_cut e ≡ true) (map taken rs)

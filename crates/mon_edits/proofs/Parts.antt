@@ -1,19 +1,21 @@
 -- The frame of one edit.
-use Rattle.std.proofs.Common.{◌≡◌, ℕ, Bool, List, ◌++◌}
+use Rattle.std.proofs.Common.{◌≡◌, ℕ, Bool, false, List, [], ◌∷◌, ◌++◌, sym, ap, ◌∙◌, append_assoc}
 use Rattle.byteorder.specs.Endian.{big_bytes}
 use Rattle.mon_table.specs.declared.edit.Edit.{Edit}
 use Rattle.mon_table.specs.Edits.{edited}
+use Rattle.of_frame.specs.Kinds.{FLOW_MOD}
 use Rattle.of_frame.specs.Header.{made}
 use Rattle.of_match.specs.Layout.{spelled}
 use Rattle.of_msgs.specs.declared.command.Command.{Command}
 use Rattle.of_msgs.specs.declared.flow_mod.FlowMod.{FlowMod}
+use Rattle.of_msgs.specs.Absent.{NO_PORT}
 use Rattle.of_msgs.specs.FlowMods.{command_number, flow_mod_of}
-use Rattle.mon_edits.specs.Frames.{command_for, buffer_for, raw_for, part_for, IsPart}
+use Rattle.mon_edits.specs.Frames.{command_for, buffer_for, raw_for, part_for, frame_for, parts, IsPart}
 
 -- the frame of these fields
 unfoldable laid : ℕ → List ℕ → ℕ → Command → ℕ → ℕ → ℕ → ℕ → ℕ → ℕ → List ℕ → List ℕ
 laid xid match cookie command idle hard priority buffer port flags raw =
-    made 14 xid (match
+    made FLOW_MOD xid (match
     ++ (big_bytes 8 cookie ++ big_bytes 2 (command_number command) ++ big_bytes 2 idle ++ big_bytes 2 hard
     ++ big_bytes 2 priority ++ big_bytes 4 buffer ++ big_bytes 2 port ++ big_bytes 2 flags)
     ++ raw)
@@ -27,5 +29,16 @@ pub part-frame : (m part : FlowMod) (e : Edit) (first : Bool) → IsPart m e fir
 unfolding laid
 part-frame m part e first p =
     same part.xid m.xid part.spelled (spelled (edited e).matching) part.cookie m.cookie part.command (command_for e) part.idle m.idle part.hard m.hard
-    part.priority (edited e).priority part.buffer (buffer_for m first) part.out_port 65535 part.flags m.flags part.raw (raw_for m e)
+    part.priority (edited e).priority part.buffer (buffer_for m first) part.out_port NO_PORT part.flags m.flags part.raw (raw_for m e)
     p.xid p.spelled p.cookie p.command p.idle p.hard p.priority p.buffer p.out_port p.flags p.raw
+
+-- one frame more
+pub part-more : (m : FlowMod) (first : Bool) (edits rest : List Edit) (edit : Edit) (frame : List ℕ) (frames more all : List (List ℕ))
+    → edits ≡ edit ∷ rest → frame ≡ frame_for m edit first → more ≡ frames ++ frame ∷ [] → frames ++ parts m first edits ≡ all
+    → more ++ parts m false rest ≡ all
+part-more m first edits rest edit frame frames more all split is pushed so_far =
+    ap (λ (xs : List (List ℕ)). xs ++ parts m false rest) pushed
+    ∙ append_assoc frames (frame ∷ []) (parts m false rest)
+    ∙ ap (λ (x : List ℕ). frames ++ x ∷ parts m false rest) is
+    ∙ ap (λ (es : List Edit). frames ++ parts m first es) (sym split)
+    ∙ so_far

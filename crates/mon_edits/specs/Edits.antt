@@ -10,6 +10,7 @@ use Rattle.mon_table.specs.Tables.{rule_of}
 use Rattle.of_msgs.specs.declared.command.Command.{Command}
 use Rattle.of_msgs.specs.declared.command.Command.TheVariants.{Add, Modify, ModifyStrict, Delete, DeleteStrict}
 use Rattle.of_msgs.specs.declared.flow_mod.FlowMod.{FlowMod}
+use Rattle.of_msgs.specs.Absent.{NO_PORT}
 use Rattle.mon_edits.specs.Naming.{identity_in, named}
 
 -- the rule that the message spells
@@ -40,7 +41,7 @@ has_output port actions = list_any (is_output port) actions
 
 -- the deletion takes the entry: the message has no out_port, or the entry has an OUTPUT to it
 abbrev pub is_taken : FlowMod → Rule → Bool
-is_taken m r = (m.out_port == 65535) || has_output m.out_port r.actions
+is_taken m r = (m.out_port == NO_PORT) || has_output m.out_port r.actions
 
 -- an entry that goes
 abbrev pub taken : Rule → Edit

@@ -1,15 +1,17 @@
 -- The frame in which an edit of a FLOW_MOD goes to the switch.
-use Rattle.std.specs.Prelude.{◌≡◌, ℕ, Bool, true, false, if◌then◌else◌, List, [], ◌++◌, Some, None}
+use Rattle.std.specs.Prelude.{◌≡◌, ℕ, Bool, true, false, if◌then◌else◌, List, [], ◌∷◌, ◌++◌, Some, None}
 use Rattle.byteorder.specs.Endian.{big_bytes}
 use Rattle.mon_header.specs.declared.action.Action.{Action}
 use Rattle.mon_table.specs.declared.edit.Edit.{Edit}
 use Rattle.mon_table.specs.declared.edit.Edit.TheVariants.{Put, Cut}
 use Rattle.mon_table.specs.Edits.{edited}
+use Rattle.of_frame.specs.Kinds.{FLOW_MOD}
 use Rattle.of_frame.specs.Header.{made}
 use Rattle.of_match.specs.Layout.{spelled}
 use Rattle.of_msgs.specs.declared.command.Command.{Command}
 use Rattle.of_msgs.specs.declared.command.Command.TheVariants.{Add, ModifyStrict, DeleteStrict}
 use Rattle.of_msgs.specs.declared.flow_mod.FlowMod.{FlowMod}
+use Rattle.of_msgs.specs.Absent.{NO_BUFFER, NO_PORT}
 use Rattle.of_msgs.specs.FlowMods.{command_number, flow_mod_of}
 use Rattle.mon_edits.specs.Naming.{is_add}
 
@@ -33,23 +35,33 @@ abbrev pub actions_for : FlowMod → Edit → List Action
 actions_for m (Put r old) = m.actions
 actions_for m (Cut r) = []
 
--- the first frame of a message bears its buffer, the others none (0xffffffff)
+-- the first frame of a message bears its buffer, the others none
 abbrev pub buffer_for : FlowMod → Bool → ℕ
-buffer_for m first = if first then m.buffer else 4294967295
+buffer_for m first = if first then m.buffer else NO_BUFFER
 
--- the message's cookie, the command, its timeouts, the entry's priority field, the buffer, no out_port (0xffff), and the message's flags
+-- the message's cookie, the command, its timeouts, the entry's priority field, the buffer, no out_port, and the message's flags
 abbrev pub fields_for : FlowMod → Edit → Bool → List ℕ
 fields_for m e first =
     big_bytes 8 m.cookie ++ big_bytes 2 (command_number (command_for e)) ++ big_bytes 2 m.idle ++ big_bytes 2 m.hard
-    ++ big_bytes 2 (edited e).priority ++ big_bytes 4 (buffer_for m first) ++ big_bytes 2 65535 ++ big_bytes 2 m.flags
+    ++ big_bytes 2 (edited e).priority ++ big_bytes 4 (buffer_for m first) ++ big_bytes 2 NO_PORT ++ big_bytes 2 m.flags
 
 -- the frame of one edit: the message's xid, the entry's normalised match, the fields, and the bytes of the actions
 abbrev pub part_for : FlowMod → Edit → Bool → List ℕ
-part_for m e first = made 14 m.xid (spelled (edited e).matching ++ fields_for m e first ++ raw_for m e)
+part_for m e first = made FLOW_MOD m.xid (spelled (edited e).matching ++ fields_for m e first ++ raw_for m e)
 
 -- an ADD goes on as it came, every other edit in a frame of its own
 abbrev pub frame_for : FlowMod → Edit → Bool → List ℕ
 frame_for m e first = if is_add m.command then flow_mod_of m else part_for m e first
+
+-- a frame for each edit of a message, the first of which bears the message's buffer
+abbrev pub parts : FlowMod → Bool → List Edit → List (List ℕ)
+parts m first [] = []
+parts m first (edit ∷ edits) = frame_for m edit first ∷ parts m false edits
+
+-- the frames in which a message goes to the switch that has these edits: an ADD goes on as it came, and every other
+-- message in parts
+abbrev pub frames_of : FlowMod → List Edit → List ℕ → List (List ℕ)
+frames_of m edits frame = if is_add m.command then frame ∷ [] else parts m true edits
 
 -- a message of those fields
 pub record IsPart (m : FlowMod) (e : Edit) (first : Bool) (part : FlowMod) : Type 0 where
@@ -61,6 +73,6 @@ pub record IsPart (m : FlowMod) (e : Edit) (first : Bool) (part : FlowMod) : Typ
   pub hard : part.hard ≡ m.hard
   pub priority : part.priority ≡ (edited e).priority
   pub buffer : part.buffer ≡ buffer_for m first
-  pub out_port : part.out_port ≡ 65535
+  pub out_port : part.out_port ≡ NO_PORT
   pub flags : part.flags ≡ m.flags
   pub raw : part.raw ≡ raw_for m e

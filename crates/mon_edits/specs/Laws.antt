@@ -9,11 +9,6 @@ use Rattle.of_msgs.specs.declared.flow_mod.FlowMod.{FlowMod}
 use Rattle.mon_edits.specs.Naming.{is_add, is_deletion, is_none, identity_in, named}
 use Rattle.mon_edits.specs.Edits.{changed_rule, is_taken}
 
--- the table after edits, of which the first stands first
-abbrev pub after_all : List Rule → List Edit → List Rule
-after_all t [] = t
-after_all t (x ∷ edits) = after_all (after t x) edits
-
 -- each edit says rightly what stands in its place as it comes
 abbrev pub AllRight : List Rule → List Edit → Type 0
 AllRight t [] = Unit {0}

@@ -2,21 +2,21 @@
 use Rattle.std.specs.Prelude.{Bool, true, false, not, ◌&&◌, List, [], ◌∷◌}
 use Rattle.std.specs.List.{filter}
 use Rattle.std.specs.Option.{option_to_list}
-use Rattle.mon_header.specs.Wild.{bit}
 use Rattle.mon_table.specs.declared.rule.Rule.{Rule}
 use Rattle.mon_table.specs.Rules.{Identity, identity}
 use Rattle.mon_table.specs.Tables.{rule_of, is_named}
 use Rattle.of_msgs.specs.declared.command.Command.{Command}
 use Rattle.of_msgs.specs.declared.command.Command.TheVariants.{Add, Modify, ModifyStrict, Delete, DeleteStrict}
 use Rattle.of_msgs.specs.declared.flow_mod.FlowMod.{FlowMod}
+use Rattle.of_msgs.specs.Flags.{CHECK_OVERLAP, EMERG, has_flag}
 
--- the flag EMERG: the message is for the emergency table
+-- the message is for the emergency table
 abbrev pub is_emergency : FlowMod → Bool
-is_emergency m = bit m.flags 2
+is_emergency m = has_flag EMERG m.flags
 
--- the flag CHECK_OVERLAP: an entry that overlaps is an error
+-- an entry that overlaps is an error
 abbrev pub checks_overlap : FlowMod → Bool
-checks_overlap m = bit m.flags 1
+checks_overlap m = has_flag CHECK_OVERLAP m.flags
 
 -- the command is an ADD
 abbrev pub is_add : Command → Bool

@@ -10,9 +10,21 @@ use Rattle.mon_edits.specs.declared.refusal.ModRefusal.{ModRefusal}
 use Rattle.mon_edits.specs.declared.refusal.ModRefusal.TheVariants.{TooManyActions, Timeouts, Reserved, OverlapFlag, TableFull, OutOfMemory}
 use Rattle.mon_edits.specs.Naming.{checks_overlap, is_add, is_strict, is_deletion, adds_entry}
 
--- no deletion, and more than 512 bytes of actions
+-- the most bytes of actions in a message
+abbrev pub MOST_ACTIONS : ℕ
+MOST_ACTIONS = 512
+
+-- the lowest effective priority of a catching entry
+abbrev pub CATCHING : ℕ
+CATCHING = 65534
+
+-- the most entries of a table, unsettled cuts counted
+abbrev pub MOST_ENTRIES : ℕ
+MOST_ENTRIES = 4096
+
+-- no deletion, and too many actions
 abbrev pub has_too_many_actions : FlowMod → Bool
-has_too_many_actions m = not (is_deletion m.command) && nat_lt 512 (length m.raw)
+has_too_many_actions m = not (is_deletion m.command) && nat_lt MOST_ACTIONS (length m.raw)
 
 -- no deletion, and the entry would go by itself
 abbrev pub has_timeouts : FlowMod → Bool
@@ -34,16 +46,16 @@ has_rival t m = list_any (rivals m) t
 abbrev pub is_reserved : Bool → List Rule → FlowMod → Bool
 is_reserved adds catching m =
     (is_add m.command || (is_strict m.command || adds))
-    && (nat_le 65534 (effective m.matching m.priority) && is_caught catching m)
+    && (nat_le CATCHING (effective m.matching m.priority) && is_caught catching m)
 
 -- an ADD, or a MODIFY that adds an entry, that asks to look for an overlap, where there is one
 abbrev pub is_overlapping : Bool → List Rule → FlowMod → Bool
 is_overlapping adds t m =
     checks_overlap m && ((is_add m.command || adds) && has_rival t m)
 
--- an entry would be added to 4096, unsettled cuts counted
+-- an entry would be added to as many as there may be
 abbrev pub is_full : Bool → List Rule → ℕ → Bool
-is_full adds t cuts = adds && nat_le 4096 (length t + cuts)
+is_full adds t cuts = adds && nat_le MOST_ENTRIES (length t + cuts)
 
 -- the first refusal that applies; `adds` says whether the message adds an entry
 abbrev pub first_of : Bool → List Rule → List Rule → ℕ → FlowMod → Option ModRefusal

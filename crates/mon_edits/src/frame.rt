@@ -1,15 +1,16 @@
-//! From an edit to the frame in which it passes.
+//! From edits to the frames in which they pass.
 
-ghost use Rattle.std.specs.Prelude.{◌≡◌, false, IfOk};
+ghost use Rattle.std.specs.Prelude.{◌≡◌, true, false, IfOk};
+ghost use Rattle.std.specs.List.{AllByRecursion};
 ghost use Rattle.of_match.specs.Layout.{match_of, spelled};
 ghost use Rattle.mon_edits.specs.Naming.{is_emergency, is_deletion};
-ghost use Rattle.mon_edits.specs.Frames.{is_cut, command_for, raw_for, actions_for, part_for, frame_for, IsPart};
+ghost use Rattle.mon_edits.specs.Frames.{is_cut, command_for, raw_for, actions_for, part_for, frame_for, parts, frames_of, IsPart};
 
 use crate::naming::is_add;
 use mon_header::{Actions, Match};
 use mon_list::OutOfMemory;
 use mon_table::Edit;
-use of_frame::Frame;
+use of_frame::{Frame, Frames};
 use of_match::{write_match, written_is_read};
 use of_msgs::{Command, FlowMod, NO_BUFFER, RawActions, ports, write_flow_mod};
 use std::alloc::Global;
@@ -99,4 +100,41 @@ pub fn frame_of(alloc: Global, m: &FlowMod, e: &Edit, first: bool) -> Result<Fra
         return write_flow_mod(alloc, m);
     }
     part_frame(alloc, m, e, first)
+}
+
+/// A frame for each edit, the first of which bears the message's buffer.
+fn parts(alloc: Global, m: &FlowMod, edits: &[Edit]) -> Result<Frames, OutOfMemory>
+    requires calm { is_emergency m.now ≡ false }
+    requires kind { AllByRecursion (λ e. is_cut e ≡ is_deletion m.now.command) edits.now }
+    ensures { IfOk result (λ frames. frames ≡ parts m.now true edits.now) }
+{
+    let mut frames = Frames::new(alloc);
+    let mut first = true;
+    for edit in edits {
+        let frame = frame_of(alloc, m, edit, first)?;
+        frames.push(frame)?;
+        first = false;
+    }
+    Ok(frames)
+}
+
+/// The frames in which a message that has these edits goes to the switch, in order: an ADD as the frame in which it
+/// came, and every other message as a frame for each edit, of which the first bears the message's buffer. Edits of
+/// `plan_mod` take entries out exactly where the command is a deletion (`edits_suit_the_command`).
+pub fn frames_of(
+    alloc: Global,
+    m: &FlowMod,
+    edits: &[Edit],
+    frame: Frame,
+) -> Result<Frames, OutOfMemory>
+    requires calm { is_emergency m.now ≡ false }
+    requires kind { AllByRecursion (λ e. is_cut e ≡ is_deletion m.now.command) edits.now }
+    ensures { IfOk result (λ frames. frames ≡ frames_of m.now edits.now frame) }
+{
+    if !is_add(m.command) {
+        return parts(alloc, m, edits);
+    }
+    let mut frames = Frames::new(alloc);
+    frames.push(frame)?;
+    Ok(frames)
 }

@@ -6,11 +6,12 @@ ghost use Rattle.mon_list.specs.Has.{Has};
 ghost use Rattle.mon_header.specs.Matching.{IsNormal};
 ghost use Rattle.mon_table.specs.declared.rule.Rule.{Rule};
 ghost use Rattle.mon_table.specs.Tables.{InOrder, IsTable};
+ghost use Rattle.mon_table.specs.Edits.{after_all};
 ghost use Rattle.of_msgs.specs.declared.flow_mod.FlowMod.{FlowMod};
 ghost use Rattle.mon_edits.specs.Naming.{is_add, is_deletion, named, adds_entry};
 ghost use Rattle.mon_edits.specs.Edits.{rule_in, edits_of};
 ghost use Rattle.mon_edits.specs.Frames.{is_cut};
-ghost use Rattle.mon_edits.specs.Laws.{after_all, AllRight, IsOther, IsTaken, IsChanged, changes_entries};
+ghost use Rattle.mon_edits.specs.Laws.{AllRight, IsOther, IsTaken, IsChanged, changes_entries};
 
 /// A message takes entries out exactly where its command is a deletion.
 pub fn edits_suit_the_command()

@@ -1,8 +1,8 @@
 //! FLOW_MODs over small tables, written by hand.
 
-use crate::{ModRefusal, frame_of, is_emergency, plan_mod};
+use crate::{ModRefusal, edits_suit_the_command, frames_of, is_emergency, plan_mod};
 use mon_header::{Actions, Header, Match};
-use mon_table::{Edit, Rule, Table};
+use mon_table::{Rule, Table};
 use of_frame::{Cutter, Frame};
 use of_msgs::{FlowMod, read_flow_mod};
 use std::alloc::Global;
@@ -107,17 +107,18 @@ fn table(alloc: Global, text: &str) -> Result<Table, Fail> {
     Ok(table)
 }
 
-/// The frames in which the edits of a message pass, one behind the other.
-fn passed(alloc: Global, table: &Table, m: &FlowMod) -> Result<Vec<u8>, Fail> {
+/// The bytes of the frames in which the message of some digits goes to the switch.
+fn passed(alloc: Global, table: &Table, text: &str) -> Result<Vec<u8>, Fail> {
+    let frame = frames(alloc, text)?.pop().ok_or("no frame")?;
+    let m = read_flow_mod(alloc, &frame)?;
     let mut bytes = Vec::new(alloc);
-    if is_emergency(m) {
+    if is_emergency(&m) {
         return Ok(bytes);
     }
-    let edits = plan_mod(alloc, table, &Table::new(alloc), 0, m)?;
-    for (number, edit) in edits.items().iter().enumerate() {
-        if crate::is_deletion(m.command) == matches!(edit, Edit::Cut { .. }) {
-            bytes.extend_from_slice(frame_of(alloc, m, edit, number == 0)?.bytes())?;
-        }
+    let edits = plan_mod(alloc, table, &Table::new(alloc), 0, &m)?;
+    edits_suit_the_command();
+    for frame in frames_of(alloc, &m, edits.items(), frame)?.items() {
+        bytes.extend_from_slice(frame.bytes())?;
     }
     Ok(bytes)
 }
@@ -200,8 +201,7 @@ fn edits_pass_one_by_one(rt: HostRuntime) -> Result<(), Fail> {
         ),
     ];
     for (given, text, wanted) in cases {
-        let m = message(alloc, text)?;
-        let passed = passed(alloc, &table(alloc, given)?, &m)?;
+        let passed = passed(alloc, &table(alloc, given)?, text)?;
         assert_eq!(rt;
             passed.as_slice(),
             bytes(alloc, wanted)?.as_slice(),

@@ -1,10 +1,10 @@
 -- Edits of a table, one after the other, and back.
-use Rattle.std.specs.Prelude.{◌≡◌, Bool, nat_lt, if◌then◌else◌, List, [], ◌∷◌, length, Some, None}
+use Rattle.std.specs.Prelude.{◌≡◌, List, [], ◌∷◌, Some, None}
 use Rattle.mon_table.specs.declared.rule.Rule.{Rule}
 use Rattle.mon_table.specs.declared.edit.Edit.{Edit}
 use Rattle.mon_table.specs.declared.edit.Edit.TheVariants.{Put, Cut}
 use Rattle.mon_table.specs.Rules.{identity_of}
-use Rattle.mon_table.specs.Tables.{without, with_rule, rule_of, tied}
+use Rattle.mon_table.specs.Tables.{without, with_rule, rule_of}
 
 -- the rule that an edit puts or cuts
 abbrev pub edited : Edit → Rule
@@ -16,10 +16,10 @@ unfoldable pub after : List Rule → Edit → List Rule
 after t (Put r old) = with_rule r t
 after t (Cut r) = without (identity_of r) t
 
--- the table after edits, of which the newest stands first
-abbrev pub fold : List Rule → List Edit → List Rule
-fold t [] = t
-fold t (x ∷ older) = after (fold t older) x
+-- the table after edits, of which the first stands first
+abbrev pub after_all : List Rule → List Edit → List Rule
+after_all t [] = t
+after_all t (x ∷ edits) = after_all (after t x) edits
 
 -- the edit says rightly what stands in its place
 abbrev pub IsRight : List Rule → Edit → Type 0
@@ -35,11 +35,3 @@ inverse (Cut r) = Put r None
 -- the table with an edit taken back
 abbrev pub undone : List Rule → Edit → List Rule
 undone t x = after t (inverse x)
-
--- the larger of two tables; of two of one size the first
-abbrev pub larger : List Rule → List Rule → List Rule
-larger t u = if nat_lt (length t) (length u) then u else t
-
--- the edit's rule is tied where it stands: in the table, or in the one without the edit if that is larger
-abbrev pub tie : List Rule → Edit → Bool
-tie t x = tied (larger t (undone t x)) (edited x)

@@ -1,6 +1,6 @@
 use Rattle.std.proofs.Common.{◌≡◌}
 use Rattle.std.specs.Vec.Iter.{into_iter_items}
-use Rattle.mon_edits.specs.Laws.{after_all}
+use Rattle.mon_table.specs.Edits.{after_all}
 use Rattle.mon_core.proofs.controller.follow.Given as goal
 
 abbrev pub invariant-loop-edit : goal.invariant-loop-edit

@@ -2,7 +2,7 @@ use Rattle.std.proofs.Common.{◌≡◌, ◌+◌, List, Option, sym, ap, subst, 
 use Rattle.mon_world.specs.declared.history.Entry.{Entry}
 use Rattle.mon_core.specs.History.{Ran, RanToStop, logged}
 use Rattle.mon_core.proofs.Turns.{ran-on, ran-to_stop}
-use Rattle.mon_core.proofs.machine.run_loop.Goals as goal
+use Rattle.mon_core.proofs.run.run_loop.Goals as goal
 
 pub returns-then-stop-clause-stopped : goal.returns-then-stop-clause-stopped
 returns-then-stop-clause-stopped g c =

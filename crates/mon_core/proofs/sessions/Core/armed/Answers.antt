@@ -1,7 +1,7 @@
 use Rattle.std.proofs.Common.{◌≤◌, length, drop, ap, arith}
 use Rattle.std.proofs.lemmas.List.{drop_all}
 use Rattle.mon_core.proofs.Arming.{all-seen}
-use Rattle.mon_core.proofs.machine.Core.armed.Goals as goal
+use Rattle.mon_core.proofs.sessions.Core.armed.Goals as goal
 
 pub returns : goal.returns
 returns c =

@@ -1,6 +1,6 @@
 use Rattle.std.proofs.Common.{sym, ◌∙◌}
 use Rattle.mon_core.proofs.Turns.{opened-is, stood, carried-so_far, carried-put}
-use Rattle.mon_core.proofs.machine.Core.turn.Goals as goal
+use Rattle.mon_core.proofs.sessions.Core.turn.Goals as goal
 
 pub returns-clause-opened : goal.returns-clause-opened
 returns-clause-opened g c =
