@@ -5,7 +5,7 @@
 #![tactic(auto)]
 
 #[cfg(test)]
-mod cases;
+mod tests;
 
 ghost use Rattle.std.specs.Prelude.{◌≡◌, ◌≤◌, ◌<◌, ◌^◌, ◌+◌, length};
 ghost use Rattle.mon_fields.specs.Fields.{number_at};

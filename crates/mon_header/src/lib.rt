@@ -10,14 +10,14 @@
 
 mod action;
 mod actions;
-#[cfg(test)]
-mod cases;
 mod class;
 mod header;
 mod laws;
 mod matching;
 mod order;
 mod places;
+#[cfg(test)]
+mod tests;
 mod wild;
 
 pub use action::{Action, RawAction, same_action};

@@ -7,14 +7,14 @@
 #![tactic(auto)]
 
 mod act;
-#[cfg(test)]
-mod cases;
 mod door;
 mod emission;
 mod laws;
 mod outcome;
 mod rewrite;
 mod shape;
+#[cfg(test)]
+mod tests;
 
 pub use act::apply;
 pub use door::{Door, any_unknown};

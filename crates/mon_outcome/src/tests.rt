@@ -54,16 +54,42 @@ fn actions_change_headers_as_by_hand(rt: HostRuntime) -> Result<(), Fail> {
         ..h
     };
     let icmp = Header { nw_proto: 1, ..h };
+    let tcp = Header { nw_proto: 6, ..h };
     assert!(rt; makes(&rt, Action::SetVlanVid(0xf065), h, tagged(0x65, 3))?);
     assert!(rt; makes(&rt, Action::SetVlanVid(5), untagged, tagged(5, 0))?);
     assert!(rt; makes(&rt, Action::SetVlanPcp(0xfd), h, tagged(100, 5))?);
     assert!(rt; makes(&rt, Action::SetVlanPcp(0xfd), untagged, tagged(0, 5))?);
     assert!(rt; makes(&rt, Action::StripVlan, h, untagged)?);
     assert!(rt; makes(&rt, Action::SetNwTos(0xff), h, Header { nw_tos: 0xfc, ..h })?);
+    assert!(rt;
+        makes(
+            &rt,
+            Action::SetNwSrc(0x0a000009),
+            h,
+            Header {
+                nw_src: 0x0a000009,
+                ..h
+            }
+        )?
+    );
+    assert!(rt;
+        makes(
+            &rt,
+            Action::SetNwDst(0x0a000009),
+            h,
+            Header {
+                nw_dst: 0x0a000009,
+                ..h
+            }
+        )?
+    );
     assert!(rt; makes(&rt, Action::SetNwSrc(7), arp, arp)?);
     assert!(rt; makes(&rt, Action::SetNwTos(8), arp, arp)?);
     assert!(rt; makes(&rt, Action::SetTpDst(7), icmp, icmp)?);
+    assert!(rt; makes(&rt, Action::SetTpSrc(7), h, Header { tp_src: 7, ..h })?);
     assert!(rt; makes(&rt, Action::SetTpDst(7), h, Header { tp_dst: 7, ..h })?);
+    assert!(rt; makes(&rt, Action::SetTpSrc(7), tcp, Header { tp_src: 7, ..tcp })?);
+    assert!(rt; makes(&rt, Action::SetTpDst(7), tcp, Header { tp_dst: 7, ..tcp })?);
     Ok(())
 }
 

@@ -6,13 +6,13 @@
 //! checksum: a switch that changes a header may leave them wrong.
 #![tactic(auto)]
 
-#[cfg(test)]
-mod cases;
 mod ethernet;
 mod laws;
 mod nonce;
 mod reading;
 mod sums;
+#[cfg(test)]
+mod tests;
 mod transport;
 mod writing;
 

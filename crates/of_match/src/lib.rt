@@ -7,7 +7,7 @@
 mod codec;
 mod laws;
 #[cfg(test)]
-mod vectors;
+mod tests;
 
 pub use codec::{read_match, write_match};
 pub use laws::{order_is_of_bytes, written_is_read};
