@@ -1,7 +1,11 @@
 //! FLOW_MODs over small tables, written by hand.
 
-use crate::{ModRefusal, edits_suit_the_command, frames_of, is_emergency, plan_mod};
-use mon_header::{Actions, Header, Match};
+ghost use Rattle.std.specs.Prelude.{◌≡◌, false, IfOk};
+ghost use Rattle.std.specs.List.{AllByRecursion};
+ghost use Rattle.mon_edits.specs.Naming.{is_emergency, is_deletion};
+ghost use Rattle.mon_edits.specs.Frames.{is_cut};
+
+use crate::{Edits, ModRefusal, edits_suit_the_command, frames_of, is_emergency, plan_mod};
 use mon_table::{Rule, Table};
 use of_frame::{Cutter, Frame};
 use of_msgs::{FlowMod, read_flow_mod};
@@ -35,34 +39,6 @@ const CATCHING: &str = "010e00504d6f6e6f
     010e00484d6f6e6f
     003820f7 0000 000000000000 024d4f4e4f00 0000 00 00 0000 00 00 0000 00000000 00000000 0000 0000
     0000000000000000 0000 0000 0000 fffe ffffffff ffff 0000";
-
-/// A header of zeros.
-const BLANK: Header = Header {
-    in_port: 0,
-    dl_src: 0,
-    dl_dst: 0,
-    dl_vlan: 0,
-    dl_vlan_pcp: 0,
-    dl_type: 0,
-    nw_tos: 0,
-    nw_proto: 0,
-    nw_src: 0,
-    nw_dst: 0,
-    tp_src: 0,
-    tp_dst: 0,
-};
-
-/// IPv4 to one address.
-fn to(address: u32) -> Match {
-    Match::normal(
-        0x003020ef,
-        Header {
-            dl_type: 0x0800,
-            nw_dst: address,
-            ..BLANK
-        },
-    )
-}
 
 /// The bytes of hexadecimal digits; what is no digit is skipped.
 fn bytes(alloc: Global, text: &str) -> Result<Vec<u8>, Fail> {
@@ -107,6 +83,16 @@ fn table(alloc: Global, text: &str) -> Result<Table, Fail> {
     Ok(table)
 }
 
+/// The edits of a message over a table.
+fn planned(alloc: Global, table: &Table, m: &FlowMod) -> Result<Edits, Fail>
+    requires { is_emergency m.now ≡ false }
+    ensures { IfOk result (λ edits. AllByRecursion (λ e. is_cut e ≡ is_deletion m.now.command) edits) }
+{
+    let edits = plan_mod(alloc, table, &Table::new(alloc), 0, m)?;
+    edits_suit_the_command();
+    Ok(edits)
+}
+
 /// The bytes of the frames in which the message of some digits goes to the switch.
 fn passed(alloc: Global, table: &Table, text: &str) -> Result<Vec<u8>, Fail> {
     let frame = frames(alloc, text)?.pop().ok_or("no frame")?;
@@ -115,8 +101,7 @@ fn passed(alloc: Global, table: &Table, text: &str) -> Result<Vec<u8>, Fail> {
     if is_emergency(&m) {
         return Ok(bytes);
     }
-    let edits = plan_mod(alloc, table, &Table::new(alloc), 0, &m)?;
-    edits_suit_the_command();
+    let edits = planned(alloc, table, &m)?;
     for frame in frames_of(alloc, &m, edits.items(), frame)?.items() {
         bytes.extend_from_slice(frame.bytes())?;
     }
@@ -285,40 +270,5 @@ fn the_first_refusal_is_said(rt: HostRuntime) -> Result<(), Fail> {
         format!(in alloc; "{}", ModRefusal::TableFull)?.as_str(),
         "the table is full"
     );
-    Ok(())
-}
-
-/// The answer of a plan over a table, without catching entries and cuts.
-fn refusal(alloc: Global, table: &Table, text: &str) -> Result<Option<ModRefusal>, Fail> {
-    let m = message(alloc, text)?;
-    if is_emergency(&m) {
-        return Err(Fail::new("the emergency table"));
-    }
-    Ok(plan_mod(alloc, table, &Table::new(alloc), 0, &m).err())
-}
-
-#[test]
-fn a_table_is_full_at_4096_entries(rt: HostRuntime) -> Result<(), Fail> {
-    let alloc = rt.alloc();
-    let mut table = Table::new(alloc);
-    for host in 0..4095_u32 {
-        let _ = table.put(Rule {
-            matching: to(0x0a00_0000 + host),
-            priority: 100,
-            actions: Actions::new(alloc),
-        })?;
-    }
-    assert_eq!(rt; refusal(alloc, &table, ADD)?, None);
-    let _ = table.put(Rule {
-        matching: to(0x0a00_0fff),
-        priority: 100,
-        actions: Actions::new(alloc),
-    })?;
-    assert_eq!(rt; table.len(), 4096);
-    assert_eq!(rt; refusal(alloc, &table, ADD)?, Some(ModRefusal::TableFull));
-    let again = "010e005000000041
-        003020ef 0000 000000000000 000000000000 0000 00 00 0800 00 00 0000 00000000 0a000fff 0000 0000
-        0000000000000000 0000 0000 0000 0064 ffffffff ffff 0000 0000000800020000";
-    assert_eq!(rt; refusal(alloc, &table, again)?, None);
     Ok(())
 }
