@@ -5,9 +5,13 @@ use Rattle.mon_world.specs.declared.desk.DeskFault.TheVariants as desk
 use Rattle.mon_world.specs.declared.hub.HubFault.{HubFault}
 use Rattle.mon_world.specs.declared.hub.HubFault.TheVariants as hub
 
+-- one more, or the last value of a count
+abbrev pub counted : ℕ → ℕ
+counted n = min (n + 1) (2 ^ 64 - 1)
+
 -- a count rose, or stood at its last value
 abbrev pub Rose : ℕ → ℕ → Type 0
-Rose before now = min (before + 1) (2 ^ 64 - 1) ≤ now
+Rose before now = counted before ≤ now
 
 -- a call of a desk fails only where the count rose, and the count never falls
 pub record DeskCause {T : Type 0} (before now : ℕ) (result : Result T DeskFault) : Type 0 where

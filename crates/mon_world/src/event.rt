@@ -2,16 +2,10 @@
 
 ghost use Rattle.std.specs.Prelude.{◌≡◌, ◌≤◌, ◌<◌, List, ℕ, length, IfOk};
 
-use mon_list::{Items, OutOfMemory};
+use mon_list::OutOfMemory;
 use of_frame::Frame;
 use std::alloc::Global;
 use std::marker::Model;
-
-/// The bytes of a file.
-pub type FileBytes = Items<u8>;
-
-/// Numbers, from 0, of the reads or writes that are to fail.
-pub type Places = Items<u64>;
 
 /// One of the two ends of a session.
 #[derive(Clone, Copy, Debug, PartialEq, Eq)]
