@@ -12,16 +12,9 @@ use std::alloc::Global;
 /// A call of a desk: its name, and whether it did what it was asked to, or the text that it was to say.
 #[derive(Drop)]
 pub enum Call {
-    Read {
-        name: Text,
-        done: bool,
-    },
-    Write {
-        done: bool,
-    },
-    Say {
-        text: Items<u8>,
-    },
+    Read { name: Text, done: bool },
+    Write { done: bool },
+    Say { text: Items<u8> },
 }
 
 /// Calls, in order.

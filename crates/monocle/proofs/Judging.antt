@@ -1,6 +1,5 @@
 -- What is said of a file that is no table, and what a check of both files does.
-use Rattle.std.proofs.Common.{◌≡◌, ◌<◌, ℕ, List, Option, Some, None, IfSome, inl, inr, refl, subst, sym}
-use Rattle.std.specs.Prelude.{codes}
+use Rattle.std.proofs.Common.{◌≡◌, ◌<◌, ℕ, List, Option, Some, None, IfSome, subst, sym}
 use Rattle.mon_table.specs.declared.rule.Rule.{Rule}
 use Rattle.mon_shows.specs.Views.{Viewing}
 use Rattle.mon_certificate.specs.declared.certificate.Certificate.{Certificate}
@@ -9,10 +8,9 @@ use Rattle.mon_table_file.specs.TableFile.{IsTableFile}
 use Rattle.mon_plan.specs.Checking.{checked}
 use Rattle.mon_words.specs.declared.command.Source.{Source}
 use Rattle.mon_words.specs.declared.command.Source.TheVariants.{File}
-use Rattle.mon_world.specs.Files.{with_more, AllOrNothing}
-use Rattle.monocle.specs.Planning.{Contents, Gives, GivesNone, IsCheck, checked_text, status_of}
+use Rattle.mon_world.specs.Files.{with_more}
+use Rattle.monocle.specs.Planning.{Contents, Gives, GivesNone, GivesSome, HasNoSpelling, IsSpelled, IsCheck, checked_text, status_of}
 use Rattle.monocle.specs.Running.{WritesPrefix, Checks}
-use Rattle.monocle.specs.Saying.{Says, IsSourceText}
 
 pub no-table : (told : Option Contents) (name text read : List ℕ) → IfSome told (λ files. files name ≡ Some text) → read ≡ text
     → ((v : Viewing) (t : List Rule) → IsTableFile read v t → ⊥) → IfSome told (λ files. GivesNone files (File name))
@@ -20,24 +18,23 @@ no-table None name text read content same none = content
 no-table (Some files) name text read content same none =
     (text, content, subst (λ bytes. (v : Viewing) (t : List Rule) → IsTableFile bytes v t → ⊥) same none)
 
-pub no-table-is-said : (told : Option Contents) (name text read : List ℕ) (status : ℕ) (before silent now : Option (List ℕ))
-    → IfSome told (λ files. files name ≡ Some text) → read ≡ text → ((v : Viewing) (t : List Rule) → IsTableFile read v t → ⊥)
-    → status ≡ 5 → silent ≡ before → AllOrNothing (codes "monocle: table\n") silent now
-    → Says (IsSourceText told (File name)) status before now
-no-table-is-said told name text read status before silent now content same none five quiet said = (
-  codes "monocle: table\n",
-  inr (inl (five, refl, no-table told name text read content same none)),
-  subst (λ told. AllOrNothing (codes "monocle: table\n") told now) quiet said,
-)
+pub no-certificates : (told : Option Contents) (name text read : List ℕ) → IfSome told (λ files. files name ≡ Some text) → read ≡ text
+    → ((cs : List Certificate) → Spells read cs → ⊥) → IfSome told (λ files. HasNoSpelling files name)
+no-certificates None name text read content same none = content
+no-certificates (Some files) name text read content same none =
+    (text, content, subst (λ bytes. (cs : List Certificate) → Spells bytes cs → ⊥) same none)
+
+pub gives-some : (told : Option Contents) (source : Source) (v : Viewing) (t : List Rule) → IfSome told (λ files. Gives files source v t) → IfSome told (λ files. GivesSome files source)
+gives-some None source v t gives = gives
+gives-some (Some files) source v t gives = (v, t, gives)
 
 -- what is checked is checked, whether or not it can be written
-pub is-check : (told : Option Contents) (source : Source) (name text read : List ℕ) (v : Viewing) (t : List Rule) (cs : List Certificate) (due : ℕ) (bytes : List ℕ)
-    → IfSome told (λ files. Gives files source v t) → IfSome told (λ files. files name ≡ Some text) → read ≡ text → Spells read cs
+pub is-check : (told : Option Contents) (source : Source) (name : List ℕ) (v : Viewing) (t : List Rule) (cs : List Certificate) (due : ℕ) (bytes : List ℕ)
+    → IfSome told (λ files. Gives files source v t) → IfSome told (λ files. IsSpelled files name cs)
     → due ≡ status_of (checked v t cs) → bytes ≡ checked_text (checked v t cs)
     → IfSome told (λ files. IsCheck files source name due bytes)
-is-check None source name text read v t cs due bytes gives content same spells d b = gives
-is-check (Some files) source name text read v t cs due bytes gives content same spells d b =
-    (v, t, text, cs, gives, content, subst (λ bs. Spells bs cs) same spells, d, b)
+is-check None source name v t cs due bytes gives spelled d b = gives
+is-check (Some files) source name v t cs due bytes gives spelled d b = (v, t, cs, gives, spelled, d, b)
 
 pub check-runs : (told : Option Contents) (source : Source) (name : List ℕ) (due status : ℕ) (bytes : List ℕ) (before now : Option (List ℕ))
     → IfSome told (λ files. IsCheck files source name due bytes)

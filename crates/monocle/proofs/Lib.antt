@@ -1,2 +1,4 @@
+mod Calling
+mod Ending
 mod Judging
 mod Listing

@@ -1,4 +1,5 @@
+pub mod Calls
 pub mod Planning
 pub mod Replay
-pub mod Saying
+pub mod Ending
 pub mod Running

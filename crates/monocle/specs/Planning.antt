@@ -1,5 +1,5 @@
 -- Where `plan` and `check` take a table from, and what they write.
-use Rattle.std.specs.Prelude.{◌≡◌, ℕ, Bool, true, false, List, [], ◌∷◌, ◌++◌, Option, Some, codes, decimal}
+use Rattle.std.specs.Prelude.{◌≡◌, ℕ, Bool, true, false, List, ◌++◌, Option, Some, codes, decimal}
 use Rattle.mon_table.specs.declared.rule.Rule.{Rule}
 use Rattle.mon_shows.specs.Views.{Viewing}
 use Rattle.mon_certificate.specs.declared.certificate.Certificate.{Certificate}
@@ -31,7 +31,7 @@ GivesNone files (Generate n seed) = ⊥
 
 -- a word and a number, in a line of their own
 abbrev pub count_line : List ℕ → ℕ → List ℕ
-count_line word n = word ++ (32 ∷ decimal n ++ 10 ∷ [])
+count_line word n = word ++ (codes " " ++ (decimal n ++ codes "\n"))
 
 -- how many rules there are, and how many of each kind, a line each
 abbrev pub summary_text : Summary → List ℕ
@@ -39,7 +39,7 @@ summary_text s =
     codes "rules " ++ (decimal s.rules
     ++ (codes "\nprobes " ++ (decimal s.probes
     ++ (codes "\nindistinguishable " ++ (decimal s.indistinguishable
-    ++ (codes "\noverlap " ++ (decimal s.overlap ++ 10 ∷ [])))))))
+    ++ (codes "\noverlap " ++ (decimal s.overlap ++ codes "\n")))))))
 
 -- what a plan of the table writes: its summary, or where they are asked for certificates of all its rules, as they are
 -- read back
@@ -61,15 +61,21 @@ abbrev pub status_of : Checked → ℕ
 status_of (Accepted n) = 0
 status_of (Refused n) = 1
 
+-- the file of this name has these certificates
+abbrev pub IsSpelled : Contents → List ℕ → List Certificate → Type 0
+IsSpelled files name cs = (text : List ℕ) × (files name ≡ Some text) × Spells text cs
+
+-- the file of this name has no certificates
+abbrev pub HasNoSpelling : Contents → List ℕ → Type 0
+HasNoSpelling files name = (text : List ℕ) × (files name ≡ Some text) × ((cs : List Certificate) → Spells text cs → ⊥)
+
+-- a source gives a table
+abbrev pub GivesSome : Contents → Source → Type 0
+GivesSome files source = (v : Viewing) × (t : List Rule) × Gives files source v t
+
 -- a status, and what a check of the file of this name writes
 abbrev pub IsCheck : Contents → Source → List ℕ → ℕ → List ℕ → Type 0
 IsCheck files source name status bytes =
-    (v : Viewing) × (t : List Rule) × (text : List ℕ) × (cs : List Certificate)
-    × Gives files source v t × (files name ≡ Some text) × Spells text cs
+    (v : Viewing) × (t : List Rule) × (cs : List Certificate)
+    × Gives files source v t × IsSpelled files name cs
     × (status ≡ status_of (checked v t cs)) × (bytes ≡ checked_text (checked v t cs))
-
--- a source gives a table, and the file of this name has no certificates
-abbrev pub HasNoCertificates : Contents → Source → List ℕ → Type 0
-HasNoCertificates files source name =
-    (v : Viewing) × (t : List Rule) × (text : List ℕ)
-    × Gives files source v t × (files name ≡ Some text) × ((cs : List Certificate) → Spells text cs → ⊥)

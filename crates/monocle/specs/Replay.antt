@@ -29,14 +29,19 @@ lines_of_tables (armed ∷ others) = table_lines armed.0 armed.1 ++ lines_of_tab
 abbrev pub answer_of : List Entry → List ℕ
 answer_of h = text h ++ lines_of_tables (armed_in h)
 
--- what a run of the trace's events gives
-abbrev pub IsAnswer : List ℕ → List ℕ → Type 0
-IsAnswer trace bytes = (traced : Traced) × (trace_of trace ≡ Some traced) × (h : List Entry) × IsRunOf traced.events h × (bytes ≡ answer_of h)
+-- a file of this name was there
+abbrev pub IsFile : Contents → List ℕ → Type 0
+IsFile files name = (content : List ℕ) × (files name ≡ Some content)
 
--- what a replay of the file of this name writes
-abbrev pub IsReplay : Contents → List ℕ → List ℕ → Type 0
-IsReplay files name bytes = (trace : List ℕ) × (files name ≡ Some trace) × IsAnswer trace bytes
+-- the file of this name is this trace; the settings were there
+abbrev pub IsTraceFile : Contents → List ℕ → List ℕ → Traced → Type 0
+IsTraceFile files settings name traced = IsFile files settings × ((content : List ℕ) × (files name ≡ Some content) × (trace_of content ≡ Some traced))
 
--- the file of this name is no trace
-abbrev pub IsNoTrace : Contents → List ℕ → Type 0
-IsNoTrace files name = (trace : List ℕ) × (files name ≡ Some trace) × (trace_of trace ≡ None)
+-- the file of this name is no trace; the settings were there
+abbrev pub IsNoTrace : Contents → List ℕ → List ℕ → Type 0
+IsNoTrace files settings name = IsFile files settings × ((content : List ℕ) × (files name ≡ Some content) × (trace_of content ≡ None))
+
+-- what a replay of the files of these names writes: what a run of the trace's events gives
+abbrev pub IsReplay : Contents → List ℕ → List ℕ → List ℕ → Type 0
+IsReplay files settings name bytes =
+    (traced : Traced) × IsTraceFile files settings name traced × ((h : List Entry) × IsRunOf traced.events h × (bytes ≡ answer_of h))

@@ -12,227 +12,358 @@ const TO_24: &str =
 const FROM_8: &str =
     "003818ef 0000 000000000000 000000000000 0000 00 00 0800 00 00 0000 0a000000 00000000 0000 0000";
 
+/// IPv4 packets to 10.0.0.0/8.
+const TO_8: &str =
+    "003620ef 0000 000000000000 000000000000 0000 00 00 0800 00 00 0000 00000000 0a000000 0000 0000";
+
 /// All IPv4 packets.
 const IPV4: &str =
     "003820ef 0000 000000000000 000000000000 0000 00 00 0800 00 00 0000 00000000 00000000 0000 0000";
 
+/// All packets.
+const ALL: &str =
+    "003820ff 0000 000000000000 000000000000 0000 00 00 0000 00 00 0000 00000000 00000000 0000 0000";
+
+/// A FLOW_MOD: the eight bytes of its header, its match, its fields up to its 64th byte, and the rest.
+type FlowMod = (&'static str, &'static str, &'static str, &'static str);
+
 /// An ADD for `TO_24` at priority 100, with an OUTPUT to port 2.
-const ADD: &str = "010e005000000011
-    003220ef 0000 000000000000 000000000000 0000 00 00 0800 00 00 0000 00000000 0a000000 0000 0000
-    0000000000000000 0000 0000 0000 0064 ffffffff ffff 0000 0000000800020000";
+const ADD: FlowMod = (
+    "010e005000000011",
+    TO_24,
+    "0000000000000000 0000 0000 0000 0064",
+    "ffffffff ffff 0000 0000000800020000",
+);
 
 /// An ADD for `IPV4` at priority 50, with an OUTPUT to port 1.
-const LOW_ADD: &str = "010e005000000012
-    003820ef 0000 000000000000 000000000000 0000 00 00 0800 00 00 0000 00000000 00000000 0000 0000
-    0000000000000000 0000 0000 0000 0032 ffffffff ffff 0000 0000000800010000";
+const LOW_ADD: FlowMod = (
+    "010e005000000012",
+    IPV4,
+    "0000000000000000 0000 0000 0000 0032",
+    "ffffffff ffff 0000 0000000800010000",
+);
 
-/// Adds a text without its spaces and ends of lines.
-fn push_digits(digits: &mut String, text: &str) -> Result<(), Fail> {
-    for field in text.split_ascii_whitespace() {
-        digits.push_str(field)?;
+/// Adds a text without its spaces.
+fn push_digits(text: &mut String, digits: &str) -> Result<(), Fail> {
+    for field in digits.split_ascii_whitespace() {
+        text.push_str(field)?;
     }
     Ok(())
 }
 
-/// A trace with pieces of the controller, the first of which is record 2.
-fn trace_of(alloc: Global, pieces: &[&str]) -> Result<String, Fail> {
-    let mut trace = String::from_str(alloc, "monocle-trace 1 0000000000000001\nopen\n")?;
-    for piece in pieces {
-        trace.push_str("from controller 0 ")?;
-        push_digits(&mut trace, piece)?;
-        trace.push_str("\n")?;
-    }
-    Ok(trace)
+/// Adds a line that begins with a text and goes on with the digits of a FLOW_MOD.
+fn push_line(text: &mut String, start: &str, flow_mod: &FlowMod) -> Result<(), Fail> {
+    let (header, matching, fields, rest) = *flow_mod;
+    text.push_str(start)?;
+    push_digits(text, header)?;
+    push_digits(text, matching)?;
+    push_digits(text, fields)?;
+    push_digits(text, rest)?;
+    text.push_str("\n")?;
+    Ok(())
 }
 
-/// Lines that begin with a text, go on with digits, and end with a text.
-fn lines_of(alloc: Global, lines: &[(&str, &str, &str)]) -> Result<String, Fail> {
-    let mut text = String::new(alloc);
-    for (start, digits, end) in lines {
-        text.push_str(start)?;
-        push_digits(&mut text, digits)?;
-        text.push_str(end)?;
-        text.push_str("\n")?;
+/// Records in which the controller sends these FLOW_MODs. The first is record 2.
+fn records_of(alloc: Global, sent: &[FlowMod]) -> Result<String, Fail> {
+    let mut records = String::from_str(alloc, "open\n")?;
+    for flow_mod in sent {
+        push_line(&mut records, "from controller 0 ", flow_mod)?;
     }
-    Ok(text)
+    Ok(records)
 }
 
-/// Whether a replay of pieces of the controller writes these lines.
-fn writes(alloc: Global, pieces: &[&str], lines: &[(&str, &str, &str)]) -> Result<bool, Fail> {
-    let trace = trace_of(alloc, pieces)?;
-    let text = lines_of(alloc, lines)?;
-    replays(alloc, trace.as_str(), 0, text.as_str(), "")
+/// The lines of the frames that are put, each with its start, and those of the table, each with its priority, match and
+/// actions.
+fn lines_of(
+    alloc: Global,
+    put: &[(&str, FlowMod)],
+    table: &[(&str, &str, &str)],
+) -> Result<String, Fail> {
+    let mut lines = String::new(alloc);
+    for (start, flow_mod) in put {
+        push_line(&mut lines, start, flow_mod)?;
+    }
+    for (priority, matching, actions) in table {
+        lines.push_str("table 0 ")?;
+        lines.push_str(priority)?;
+        lines.push_str(" ")?;
+        push_digits(&mut lines, matching)?;
+        lines.push_str(" ")?;
+        lines.push_str(actions)?;
+        lines.push_str("\n")?;
+    }
+    Ok(lines)
 }
+
+/// FLOW_MODs that the controller sends, the frames that are put, and the table at the end.
+type Row = (
+    &'static [FlowMod],
+    &'static [(&'static str, FlowMod)],
+    &'static [(&'static str, &'static str, &'static str)],
+);
+
+/// Whether a replay of these FLOW_MODs writes these lines.
+fn is_written(alloc: Global, row: &Row) -> Result<bool, Fail> {
+    let (sent, put, table) = *row;
+    let records = records_of(alloc, sent)?;
+    let lines = lines_of(alloc, put, table)?;
+    replays(alloc, records.as_str(), lines.as_str())
+}
+
+const DELETE_ALL: FlowMod = (
+    "010e004800000011",
+    ALL,
+    "0000000000000000 0003 0000 0000 8000",
+    "ffffffff ffff 0000",
+);
+
+const DELETE_ADDED: FlowMod = (
+    "010e004800000011",
+    TO_24,
+    "0000000000000000 0004 0000 0000 0064",
+    "ffffffff ffff 0000",
+);
+
+const DELETE_TO_PORT_1: FlowMod = (
+    "010e004800000017",
+    ALL,
+    "0000000000000000 0003 0000 0000 0000",
+    "ffffffff 0001 0000",
+);
+
+const DELETE_LOW: FlowMod = (
+    "010e004800000017",
+    IPV4,
+    "0000000000000000 0004 0000 0000 0032",
+    "ffffffff ffff 0000",
+);
+
+/// An ADD to the emergency table.
+const EMERGENCY: FlowMod = (
+    "010e005000000011",
+    TO_24,
+    "0000000000000000 0000 0000 0000 0064",
+    "ffffffff ffff 0004 0000000800020000",
+);
+
+/// A frame that is too short to be one.
+const FAULTY: FlowMod = ("0100000700000001", "", "", "");
+
+const NOTHING: FlowMod = ("", "", "", "");
+
+/// An entry that is left has a line; a deletion goes on as one frame for each entry; it looks at the port that it names;
+/// the emergency table isn't followed; a session that ended has no lines.
+const PASSED: [Row; 5] = [
+    (
+        &[ADD],
+        &[("2 put 0 switch ", ADD)],
+        &[("100", TO_24, "0000000800020000")],
+    ),
+    (
+        &[ADD, DELETE_ALL],
+        &[("2 put 0 switch ", ADD), ("3 put 0 switch ", DELETE_ADDED)],
+        &[],
+    ),
+    (
+        &[LOW_ADD, ADD, DELETE_TO_PORT_1],
+        &[
+            ("2 put 0 switch ", LOW_ADD),
+            ("3 put 0 switch ", ADD),
+            ("4 put 0 switch ", DELETE_LOW),
+        ],
+        &[("100", TO_24, "0000000800020000")],
+    ),
+    (&[EMERGENCY], &[("2 put 0 switch ", EMERGENCY)], &[]),
+    (
+        &[ADD, FAULTY, ADD],
+        &[("2 put 0 switch ", ADD), ("3 end 0", NOTHING)],
+        &[],
+    ),
+];
 
 #[test]
-fn a_deletion_goes_on_as_one_frame_for_each_entry(rt: HostRuntime) -> Result<(), Fail> {
-    let all = "010e004800000011
-        003820ff 0000 000000000000 000000000000 0000 00 00 0000 00 00 0000 00000000 00000000 0000 0000
-        0000000000000000 0003 0000 0000 8000 ffffffff ffff 0000";
-    let gone = "010e004800000011
-        003220ef 0000 000000000000 000000000000 0000 00 00 0800 00 00 0000 00000000 0a000000 0000 0000
-        0000000000000000 0004 0000 0000 0064 ffffffff ffff 0000";
-    let lines = [("2 put 0 switch ", ADD, ""), ("3 put 0 switch ", gone, "")];
-    assert!(rt; writes(rt.alloc(), &[ADD, all], &lines)?);
+fn edits_go_on_and_are_followed(rt: HostRuntime) -> Result<(), Fail> {
+    for (number, row) in PASSED.iter().enumerate() {
+        assert!(rt; is_written(rt.alloc(), row)?, "at {number}");
+    }
     Ok(())
 }
+
+/// A modification of `TO_24` that names nothing. Its cookie, buffer and flags are kept, its out_port is not.
+const MODIFY: FlowMod = (
+    "010e005000000015",
+    TO_24,
+    "0000000000000007 0001 0000 0000 0064",
+    "00000009 0002 0001 0000000800010000",
+);
+
+const ADDED: FlowMod = (
+    "010e005000000015",
+    TO_24,
+    "0000000000000007 0000 0000 0000 0064",
+    "00000009 ffff 0001 0000000800010000",
+);
+
+/// To port 3, with a buffered packet.
+const MODIFY_IPV4: FlowMod = (
+    "010e005000000016",
+    IPV4,
+    "0000000000000000 0001 0000 0000 8000",
+    "00000009 ffff 0000 0000000800030000",
+);
+
+const OF_HIGH: FlowMod = (
+    "010e005000000016",
+    TO_24,
+    "0000000000000000 0002 0000 0000 0064",
+    "00000009 ffff 0000 0000000800030000",
+);
+
+const OF_LOW: FlowMod = (
+    "010e005000000016",
+    IPV4,
+    "0000000000000000 0002 0000 0000 0032",
+    "ffffffff ffff 0000 0000000800030000",
+);
+
+/// A modification that names nothing adds its rule; one goes to each entry that it covers.
+const MODIFIED: [Row; 2] = [
+    (
+        &[MODIFY],
+        &[("2 put 0 switch ", ADDED)],
+        &[("100", TO_24, "0000000800010000")],
+    ),
+    (
+        &[LOW_ADD, ADD, MODIFY_IPV4],
+        &[
+            ("2 put 0 switch ", LOW_ADD),
+            ("3 put 0 switch ", ADD),
+            ("4 put 0 switch ", OF_HIGH),
+            ("4 put 0 switch ", OF_LOW),
+        ],
+        &[
+            ("100", TO_24, "0000000800030000"),
+            ("50", IPV4, "0000000800030000"),
+        ],
+    ),
+];
 
 #[test]
-fn an_entry_that_is_left_has_a_line(rt: HostRuntime) -> Result<(), Fail> {
-    let lines = [
-        ("2 put 0 switch ", ADD, ""),
-        ("table 0 100 ", TO_24, " 0000000800020000"),
-    ];
-    assert!(rt; writes(rt.alloc(), &[ADD], &lines)?);
+fn modifications_add_or_change(rt: HostRuntime) -> Result<(), Fail> {
+    for (number, row) in MODIFIED.iter().enumerate() {
+        assert!(rt; is_written(rt.alloc(), row)?, "at {number}");
+    }
     Ok(())
 }
 
-/// Whether a FLOW_MOD for `TO_24` with this header, these fields up to its 64th byte and this rest is answered by an
-/// ERROR of this type and code alone.
+/// Causes, and FLOW_MODs for `TO_24` that are answered by an ERROR: one of 71 bytes, a command that is none, an action of
+/// four bytes, a timeout, and one whose actions are of 520 bytes.
+const REFUSED: [(&str, &str, &str, &str, u32); 5] = [
+    (
+        "00010006",
+        "010e004700000011",
+        "0000000000000000 0000 0000 0000 0064",
+        "ffffffff ffff 00",
+        0,
+    ),
+    (
+        "00030004",
+        "010e005000000011",
+        "0000000000000000 0005 0000 0000 0064",
+        "ffffffff ffff 0000",
+        1,
+    ),
+    (
+        "00020001",
+        "010e005000000011",
+        "0000000000000000 0000 0000 0000 0064",
+        "ffffffff ffff 0000 0000000400020000",
+        0,
+    ),
+    (
+        "00030002",
+        "010e005000000011",
+        "0000000000000000 0000 000a 0000 0064",
+        "ffffffff ffff 0000",
+        1,
+    ),
+    (
+        "00030002",
+        "010e025000000011",
+        "0000000000000000 0000 0000 0000 0064",
+        "ffffffff ffff 0000",
+        65,
+    ),
+];
+
+/// Whether a FLOW_MOD for `TO_24` with this header, these fields, this rest and so many OUTPUT actions behind it is
+/// answered by an ERROR of this type and code alone.
 fn is_refused(
     alloc: Global,
     cause: &str,
     header: &str,
     fields: &str,
     rest: &str,
+    actions: u32,
 ) -> Result<bool, Fail> {
-    let kept = format!(in alloc; "{header}{TO_24}{fields}")?;
-    let piece = format!(in alloc; "{kept}{rest}")?;
-    let error = format!(in alloc; "0101004c00000011{cause}{kept}")?;
-    writes(
-        alloc,
-        &[piece.as_str()],
-        &[("2 put 0 controller ", error.as_str(), "")],
-    )
-}
-
-#[test]
-fn what_cannot_be_read_is_answered_by_an_error(rt: HostRuntime) -> Result<(), Fail> {
-    let alloc = rt.alloc();
-    // 71 bytes
-    let header = "010e004700000011";
-    let fields = "0000000000000000 0000 0000 0000 0064";
-    let rest = "ffffffff ffff 00";
-    assert!(rt; is_refused(alloc, "00010006", header, fields, rest)?);
-    // a command that is none
-    let header = "010e005000000011";
-    let fields = "0000000000000000 0005 0000 0000 0064";
-    let rest = "ffffffff ffff 0000 0000000800020000";
-    assert!(rt; is_refused(alloc, "00030004", header, fields, rest)?);
-    // an action of four bytes
-    let fields = "0000000000000000 0000 0000 0000 0064";
-    let rest = "ffffffff ffff 0000 0000000400020000";
-    assert!(rt; is_refused(alloc, "00020001", header, fields, rest)?);
-    Ok(())
-}
-
-#[test]
-fn too_many_actions_and_timeouts_are_refused(rt: HostRuntime) -> Result<(), Fail> {
-    let alloc = rt.alloc();
-    // 65 OUTPUT actions are 520 bytes
-    let mut rest = String::from_str(alloc, "ffffffff ffff 0000")?;
-    for _ in 0..65 {
-        rest.push_str(" 0000000800020000")?;
+    let mut kept = String::new(alloc);
+    push_digits(&mut kept, header)?;
+    push_digits(&mut kept, TO_24)?;
+    push_digits(&mut kept, fields)?;
+    let mut records = format!(in alloc; "open\nfrom controller 0 {kept}")?;
+    push_digits(&mut records, rest)?;
+    for _ in 0..actions {
+        records.push_str("0000000800020000")?;
     }
-    let fields = "0000000000000000 0000 0000 0000 0064";
-    assert!(rt; is_refused(alloc, "00030002", "010e025000000011", fields, rest.as_str())?);
-    let fields = "0000000000000000 0000 000a 0000 0064";
-    let rest = "ffffffff ffff 0000 0000000800020000";
-    assert!(rt; is_refused(alloc, "00030002", "010e005000000011", fields, rest)?);
+    records.push_str("\n")?;
+    let line = format!(in alloc; "2 put 0 controller 0101004c00000011{cause}{kept}\n")?;
+    replays(alloc, records.as_str(), line.as_str())
+}
+
+#[test]
+fn what_cannot_be_followed_is_answered_by_an_error(rt: HostRuntime) -> Result<(), Fail> {
+    for (cause, header, fields, rest, actions) in REFUSED {
+        assert!(rt;
+            is_refused(rt.alloc(), cause, header, fields, rest, actions)?,
+            "at {cause}"
+        );
+    }
     Ok(())
 }
+
+const ADD_FROM_8: FlowMod = (
+    "010e005000000011",
+    FROM_8,
+    "0000000000000000 0000 0000 0000 0064",
+    "ffffffff ffff 0000 0000000800020000",
+);
+
+/// It asks that no entry of its priority overlaps it.
+const ADD_TO_8: FlowMod = (
+    "010e005000000011",
+    TO_8,
+    "0000000000000000 0000 0000 0000 0064",
+    "ffffffff ffff 0002 0000000800020000",
+);
+
+const OVERLAP: FlowMod = (
+    "0101004c00000011 0003 0001 010e005000000011",
+    TO_8,
+    "0000000000000000 0000 0000 0000 0064",
+    "",
+);
+
+const OVERLAPPING: Row = (
+    &[ADD_FROM_8, ADD_TO_8],
+    &[
+        ("2 put 0 switch ", ADD_FROM_8),
+        ("3 put 0 controller ", OVERLAP),
+    ],
+    &[("100", FROM_8, "0000000800020000")],
+);
 
 #[test]
 fn an_overlap_is_refused_where_it_is_asked_for(rt: HostRuntime) -> Result<(), Fail> {
-    let from_8 = "010e005000000011
-        003818ef 0000 000000000000 000000000000 0000 00 00 0800 00 00 0000 0a000000 00000000 0000 0000
-        0000000000000000 0000 0000 0000 0064 ffffffff ffff 0000 0000000800020000";
-    let to_8 = "010e005000000011
-        003620ef 0000 000000000000 000000000000 0000 00 00 0800 00 00 0000 00000000 0a000000 0000 0000
-        0000000000000000 0000 0000 0000 0064 ffffffff ffff 0002 0000000800020000";
-    let error = "0101004c00000011 0003 0001 010e005000000011
-        003620ef 0000 000000000000 000000000000 0000 00 00 0800 00 00 0000 00000000 0a000000 0000 0000
-        0000000000000000 0000 0000 0000 0064";
-    let lines = [
-        ("2 put 0 switch ", from_8, ""),
-        ("3 put 0 controller ", error, ""),
-        ("table 0 100 ", FROM_8, " 0000000800020000"),
-    ];
-    assert!(rt; writes(rt.alloc(), &[from_8, to_8], &lines)?);
-    Ok(())
-}
-
-#[test]
-fn the_emergency_table_is_not_followed(rt: HostRuntime) -> Result<(), Fail> {
-    let add = "010e005000000011
-        003220ef 0000 000000000000 000000000000 0000 00 00 0800 00 00 0000 00000000 0a000000 0000 0000
-        0000000000000000 0000 0000 0000 0064 ffffffff ffff 0004 0000000800020000";
-    assert!(rt; writes(rt.alloc(), &[add], &[("2 put 0 switch ", add, "")])?);
-    Ok(())
-}
-
-#[test]
-fn a_modification_that_names_nothing_adds_its_rule(rt: HostRuntime) -> Result<(), Fail> {
-    // its cookie, buffer and flags are kept, its out_port is not
-    let modify = "010e005000000015
-        003220ef 0000 000000000000 000000000000 0000 00 00 0800 00 00 0000 00000000 0a000000 0000 0000
-        0000000000000007 0001 0000 0000 0064 00000009 0002 0001 0000000800010000";
-    let added = "010e005000000015
-        003220ef 0000 000000000000 000000000000 0000 00 00 0800 00 00 0000 00000000 0a000000 0000 0000
-        0000000000000007 0000 0000 0000 0064 00000009 ffff 0001 0000000800010000";
-    let lines = [
-        ("2 put 0 switch ", added, ""),
-        ("table 0 100 ", TO_24, " 0000000800010000"),
-    ];
-    assert!(rt; writes(rt.alloc(), &[modify], &lines)?);
-    Ok(())
-}
-
-#[test]
-fn a_modification_goes_to_each_entry_that_it_covers(rt: HostRuntime) -> Result<(), Fail> {
-    // to port 3, with a buffered packet
-    let modify = "010e005000000016
-        003820ef 0000 000000000000 000000000000 0000 00 00 0800 00 00 0000 00000000 00000000 0000 0000
-        0000000000000000 0001 0000 0000 8000 00000009 ffff 0000 0000000800030000";
-    let of_high = "010e005000000016
-        003220ef 0000 000000000000 000000000000 0000 00 00 0800 00 00 0000 00000000 0a000000 0000 0000
-        0000000000000000 0002 0000 0000 0064 00000009 ffff 0000 0000000800030000";
-    let of_low = "010e005000000016
-        003820ef 0000 000000000000 000000000000 0000 00 00 0800 00 00 0000 00000000 00000000 0000 0000
-        0000000000000000 0002 0000 0000 0032 ffffffff ffff 0000 0000000800030000";
-    let lines = [
-        ("2 put 0 switch ", LOW_ADD, ""),
-        ("3 put 0 switch ", ADD, ""),
-        ("4 put 0 switch ", of_high, ""),
-        ("4 put 0 switch ", of_low, ""),
-        ("table 0 100 ", TO_24, " 0000000800030000"),
-        ("table 0 50 ", IPV4, " 0000000800030000"),
-    ];
-    assert!(rt; writes(rt.alloc(), &[LOW_ADD, ADD, modify], &lines)?);
-    Ok(())
-}
-
-#[test]
-fn a_deletion_looks_at_the_port_that_it_names(rt: HostRuntime) -> Result<(), Fail> {
-    let to_port_1 = "010e004800000017
-        003820ff 0000 000000000000 000000000000 0000 00 00 0000 00 00 0000 00000000 00000000 0000 0000
-        0000000000000000 0003 0000 0000 0000 ffffffff 0001 0000";
-    let gone = "010e004800000017
-        003820ef 0000 000000000000 000000000000 0000 00 00 0800 00 00 0000 00000000 00000000 0000 0000
-        0000000000000000 0004 0000 0000 0032 ffffffff ffff 0000";
-    let lines = [
-        ("2 put 0 switch ", LOW_ADD, ""),
-        ("3 put 0 switch ", ADD, ""),
-        ("4 put 0 switch ", gone, ""),
-        ("table 0 100 ", TO_24, " 0000000800020000"),
-    ];
-    assert!(rt; writes(rt.alloc(), &[LOW_ADD, ADD, to_port_1], &lines)?);
-    Ok(())
-}
-
-#[test]
-fn a_session_that_ended_has_no_lines(rt: HostRuntime) -> Result<(), Fail> {
-    let lines = [("2 put 0 switch ", ADD, ""), ("3 end 0", "", "")];
-    assert!(rt; writes(rt.alloc(), &[ADD, "0100000700000001", ADD], &lines)?);
+    assert!(rt; is_written(rt.alloc(), &OVERLAPPING)?);
     Ok(())
 }

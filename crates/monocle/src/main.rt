@@ -23,7 +23,7 @@ mod tables;
 mod tests;
 mod words;
 
-use crate::saying::refused;
+use crate::saying::out_of_memory;
 use crate::standard::StdDesk;
 use crate::words::monocle;
 use mon_world::{OutOfMemory, Text};
@@ -58,6 +58,6 @@ fn main(rt: HostRuntime) -> ExitCode {
     let mut desk = StdDesk::new(rt);
     match words {
         Ok(words) => ExitCode::from(monocle(alloc, &words, &mut desk)),
-        Err(_) => ExitCode::from(refused(alloc, &mut desk, 7, b"monocle: out of memory\n")),
+        Err(_) => ExitCode::from(out_of_memory(alloc, &mut desk)),
     }
 }

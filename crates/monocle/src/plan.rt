@@ -5,9 +5,10 @@ ghost use Rattle.mon_world.specs.Causes.{Rose};
 ghost use Rattle.mon_words.specs.declared.command.Command.{Command};
 ghost use Rattle.monocle.specs.Planning.{IsPlan, summary_text};
 ghost use Rattle.monocle.specs.Running.{Plans};
-ghost use Rattle.monocle.specs.Saying.{Says, IsTextOf};
+ghost use Rattle.monocle.specs.Calls.{Called};
+ghost use Rattle.monocle.specs.Ending.{IsEndOf};
 
-use crate::saying::{put, refused};
+use crate::saying::{out_of_memory, put};
 use crate::source::table_of;
 use mon_plan::{Summary, plan_table, write_certificates};
 use mon_shows::View;
@@ -57,9 +58,9 @@ pub fn plan<D: Desk>(
 ) -> u8
     ensures run { Plans (D.files desk.old) source.now certificates result (D.written desk.old) (D.written desk.new) }
     ensures unwritten { result ≢ 0 → result ≢ 6 → D.written desk.new ≡ D.written desk.old }
+    ensures ended { Called (IsEndOf (D.files desk.old) (Command.Plan source.now workers certificates) result) (D.said desk.old) (D.said desk.new) (D.calls desk.old) (D.calls desk.new) }
     ensures read { result ≡ 3 → Rose (D.read_faults desk.old) (D.read_faults desk.new) }
     ensures write { result ≡ 6 → Rose (D.write_faults desk.old) (D.write_faults desk.new) }
-    ensures said { Says (IsTextOf (D.files desk.old) (Command.Plan source.now workers certificates)) result (D.said desk.old) (D.said desk.new) }
     ensures words { result ≢ 2 }
 {
     let (view, table) = match table_of(alloc, source, desk) {
@@ -68,6 +69,6 @@ pub fn plan<D: Desk>(
     };
     match plan_text(alloc, &view, &table, workers, certificates) {
         Ok(bytes) => put(alloc, &bytes, 0, desk),
-        Err(_) => refused(alloc, desk, 7, b"monocle: out of memory\n"),
+        Err(_) => out_of_memory(alloc, desk),
     }
 }

@@ -1,7 +1,6 @@
 //! Plans and checks over a desk in memory.
 
-use crate::runs::{ends, ends_without_read, fails_reading, fails_writing, files_of, writes};
-use mon_world::NamedFiles;
+use crate::runs::{Failing, ends, files_of, writes};
 use std::alloc::Global;
 use std::test::Fail;
 
@@ -36,79 +35,41 @@ fn joined(alloc: Global, lines: &[&str]) -> Result<String, Fail> {
     Ok(text)
 }
 
-/// Whether a run over a table and certificates ends with this status, and writes and says this alone.
-fn over(
-    alloc: Global,
-    words: &str,
-    table: &[&str],
-    certificates: &str,
-    status: u8,
-    written: &str,
-    said: &str,
-) -> Result<bool, Fail> {
+/// Words, the lines of a table, certificates, what fails, and the status, and what is written and said.
+type Row = (
+    &'static str,
+    &'static [&'static str],
+    &'static str,
+    Failing,
+    u8,
+    &'static str,
+    &'static str,
+);
+
+/// Whether a run over this table and these certificates ends with this status, and writes and says this alone.
+fn ends_so(alloc: Global, row: &Row) -> Result<bool, Fail> {
+    let (words, table, certificates, failing, status, written, said) = *row;
     let table = joined(alloc, table)?;
-    let files = files_of(
-        alloc,
-        "one.table",
-        table.as_str(),
-        "one.certificates",
-        certificates,
-    )?;
-    ends(alloc, words, files, status, written, said)
+    let other = "one.certificates";
+    let files = files_of(alloc, "one.table", table.as_str(), other, certificates)?;
+    ends(alloc, words, files, failing, status, written, said)
+}
+
+/// Whether all runs end so.
+fn all_end_so(alloc: Global, rows: &[Row]) -> Result<bool, Fail> {
+    for row in rows {
+        if !ends_so(alloc, row)? {
+            return Ok(false);
+        }
+    }
+    Ok(true)
 }
 
 const CHECK: &str = "check one.table one.certificates";
 
-#[test]
-fn a_table_has_a_summary(rt: HostRuntime) -> Result<(), Fail> {
-    let alloc = rt.alloc();
-    let written = "rules 4\nprobes 2\nindistinguishable 2\noverlap 0\n";
-    assert!(rt;
-        ends(
-            alloc,
-            "plan --generate 4 --seed 7",
-            NamedFiles::new(alloc),
-            0,
-            written,
-            ""
-        )?
-    );
-    let written = "rules 2\nprobes 1\nindistinguishable 1\noverlap 0\n";
-    let table = [SWITCH, TO_24, IPV4];
-    assert!(rt;
-        over(
-            alloc,
-            "plan one.table --workers=8",
-            &table,
-            "",
-            0,
-            written,
-            ""
-        )?
-    );
-    Ok(())
-}
+const PLAN: &str = "plan one.table";
 
-#[test]
-fn certificates_are_checked(rt: HostRuntime) -> Result<(), Fail> {
-    let alloc = rt.alloc();
-    let ties = [SWITCH, FROM_8, TO_8];
-    assert!(rt;
-        over(
-            alloc,
-            "plan one.table --certificates",
-            &ties,
-            "",
-            0,
-            TIES,
-            ""
-        )?
-    );
-    assert!(rt; over(alloc, CHECK, &ties, TIES, 0, "accepted 2\n", "")?);
-    let table = [SWITCH, TO_24, IPV4];
-    assert!(rt; over(alloc, CHECK, &table, TIES, 1, "refused 0\n", "")?);
-    Ok(())
-}
+const PLAN_CERTIFICATES: &str = "plan one.table --certificates";
 
 /// A probe of the first rule at port 1, and the same with one bit of its header turned.
 const PROBE: &str =
@@ -117,84 +78,226 @@ const PROBE: &str =
 const TURNED: &str =
     "monocle-certificates 1\nrules 1\nprobe 0 000100000000000000000000000000640008000006000000000a00010100000000 port 2 000100000000000000000000000000640008000006000000000a00000100000000\n";
 
-#[test]
-fn a_turned_bit_is_refused(rt: HostRuntime) -> Result<(), Fail> {
-    let alloc = rt.alloc();
-    let table = [SWITCH, TO_24];
-    assert!(rt; over(alloc, CHECK, &table, PROBE, 0, "accepted 1\n", "")?);
-    assert!(rt; over(alloc, CHECK, &table, TURNED, 1, "refused 0\n", "")?);
-    Ok(())
-}
+const PLANS: [Row; 3] = [
+    (
+        "plan --generate 4 --seed 7",
+        &[],
+        "",
+        Failing::Nothing,
+        0,
+        "rules 4\nprobes 2\nindistinguishable 2\noverlap 0\n",
+        "",
+    ),
+    (
+        "plan one.table --workers=8",
+        &[SWITCH, TO_24, IPV4],
+        "",
+        Failing::Nothing,
+        0,
+        "rules 2\nprobes 1\nindistinguishable 1\noverlap 0\n",
+        "",
+    ),
+    (
+        PLAN_CERTIFICATES,
+        &[SWITCH, FROM_8, TO_8],
+        "",
+        Failing::Nothing,
+        0,
+        TIES,
+        "",
+    ),
+];
 
-/// Whether a check of a generated table accepts as many certificates as it says.
-fn are_accepted(alloc: Global, certificates: &str, said: &str) -> Result<bool, Fail> {
-    let files = files_of(alloc, "one.table", "", "one.certificates", certificates)?;
-    let words = "check --generate 20 --seed=7 one.certificates";
-    ends(alloc, words, files, 0, said, "")
+const CHECKS: [Row; 4] = [
+    (
+        CHECK,
+        &[SWITCH, FROM_8, TO_8],
+        TIES,
+        Failing::Nothing,
+        0,
+        "accepted 2\n",
+        "",
+    ),
+    (
+        CHECK,
+        &[SWITCH, TO_24, IPV4],
+        TIES,
+        Failing::Nothing,
+        1,
+        "refused 0\n",
+        "",
+    ),
+    (
+        CHECK,
+        &[SWITCH, TO_24],
+        PROBE,
+        Failing::Nothing,
+        0,
+        "accepted 1\n",
+        "",
+    ),
+    (
+        CHECK,
+        &[SWITCH, TO_24],
+        TURNED,
+        Failing::Nothing,
+        1,
+        "refused 0\n",
+        "",
+    ),
+];
+
+#[test]
+fn tables_are_planned_and_certificates_checked(rt: HostRuntime) -> Result<(), Fail> {
+    assert!(rt; all_end_so(rt.alloc(), &PLANS)?);
+    assert!(rt; all_end_so(rt.alloc(), &CHECKS)?);
+    Ok(())
 }
 
 #[test]
 fn a_plan_is_accepted(rt: HostRuntime) -> Result<(), Fail> {
     let alloc = rt.alloc();
-    let Some(plan) = writes(alloc, "plan --certificates --generate=20 --seed 7")? else {
-        return Err(Fail::new("no plan"));
-    };
-    assert!(rt; are_accepted(alloc, plan.as_str(), "accepted 19\n")?);
+    let plan = writes(alloc, "plan --certificates --generate=20 --seed 7")?;
+    let files = files_of(alloc, "one.table", "", "one.certificates", plan.as_str())?;
+    let words = "check --generate 20 --seed=7 one.certificates";
+    assert!(rt;
+        ends(
+            alloc,
+            words,
+            files,
+            Failing::Nothing,
+            0,
+            "accepted 19\n",
+            ""
+        )?
+    );
     Ok(())
 }
 
-/// Whether lines are no table for `plan` and for `check`.
-fn is_no_table(alloc: Global, table: &[&str]) -> Result<bool, Fail> {
-    let said = "monocle: table\n";
-    let planned = over(alloc, "plan one.table", table, TIES, 5, "", said)?;
-    Ok(planned && over(alloc, CHECK, table, TIES, 5, "", said)?)
-}
+const NO_TABLE: &str = "monocle: table\n";
+
+/// Two rules of one identity; a tag that isn't listed; ports out of order; no certificates; and a table that is judged
+/// before the certificates are read.
+const OUT_OF_FORM: [Row; 6] = [
+    (
+        PLAN,
+        &[SWITCH, TO_24, TO_24],
+        TIES,
+        Failing::Nothing,
+        5,
+        "",
+        NO_TABLE,
+    ),
+    (
+        CHECK,
+        &[SWITCH, TO_24, TO_24],
+        TIES,
+        Failing::Nothing,
+        5,
+        "",
+        NO_TABLE,
+    ),
+    (
+        CHECK,
+        &[SWITCH, "link 3 0000000000000004 1 102\n"],
+        TIES,
+        Failing::Nothing,
+        5,
+        "",
+        NO_TABLE,
+    ),
+    (
+        PLAN,
+        &[SWITCH, "link 1 0000000000000004 1 101\n"],
+        TIES,
+        Failing::Nothing,
+        5,
+        "",
+        NO_TABLE,
+    ),
+    (
+        CHECK,
+        &[SWITCH, TO_24],
+        "monocle-certificates 1\nrules 1\n",
+        Failing::Nothing,
+        5,
+        "",
+        "monocle: certificates\n",
+    ),
+    (
+        CHECK,
+        &["monocle-table 1\n"],
+        TIES,
+        Failing::Read(1),
+        5,
+        "",
+        NO_TABLE,
+    ),
+];
+
+const UNWRITTEN: &str = "monocle: cannot write\n";
+
+/// Two tied rules, of which a read or a write fails. A second write would fail.
+const FAULTS: [Row; 6] = [
+    (
+        CHECK,
+        &[SWITCH, FROM_8, TO_8],
+        TIES,
+        Failing::Read(0),
+        3,
+        "",
+        "monocle: cannot read one.table\n",
+    ),
+    (
+        CHECK,
+        &[SWITCH, FROM_8, TO_8],
+        TIES,
+        Failing::Read(1),
+        3,
+        "",
+        "monocle: cannot read one.certificates\n",
+    ),
+    (
+        CHECK,
+        &[SWITCH, FROM_8, TO_8],
+        TIES,
+        Failing::Write(0),
+        6,
+        "",
+        UNWRITTEN,
+    ),
+    (
+        PLAN,
+        &[SWITCH, FROM_8, TO_8],
+        TIES,
+        Failing::Write(0),
+        6,
+        "",
+        UNWRITTEN,
+    ),
+    (
+        PLAN_CERTIFICATES,
+        &[SWITCH, FROM_8, TO_8],
+        TIES,
+        Failing::Write(0),
+        6,
+        "",
+        UNWRITTEN,
+    ),
+    (
+        CHECK,
+        &[SWITCH, FROM_8, TO_8],
+        TIES,
+        Failing::Write(1),
+        0,
+        "accepted 2\n",
+        "",
+    ),
+];
 
 #[test]
-fn tables_out_of_form_are_refused(rt: HostRuntime) -> Result<(), Fail> {
-    let alloc = rt.alloc();
-    // two rules of one identity
-    assert!(rt; is_no_table(alloc, &[SWITCH, TO_24, TO_24])?);
-    // a tag that isn't listed
-    assert!(rt; is_no_table(alloc, &[SWITCH, "link 3 0000000000000004 1 102\n"])?);
-    // ports out of order
-    assert!(rt; is_no_table(alloc, &[SWITCH, "link 1 0000000000000004 1 101\n"])?);
-    Ok(())
-}
-
-#[test]
-fn certificates_out_of_form_are_refused(rt: HostRuntime) -> Result<(), Fail> {
-    let table = [SWITCH, TO_24];
-    let short = "monocle-certificates 1\nrules 1\n";
-    let said = "monocle: certificates\n";
-    assert!(rt; over(rt.alloc(), CHECK, &table, short, 5, "", said)?);
-    Ok(())
-}
-
-#[test]
-fn a_table_is_judged_before_certificates_are_read(rt: HostRuntime) -> Result<(), Fail> {
-    let alloc = rt.alloc();
-    let table = "monocle-table 1\n";
-    let files = files_of(alloc, "one.table", table, "one.certificates", TIES)?;
-    assert!(rt; ends_without_read(alloc, CHECK, files, 1, 5, "monocle: table\n")?);
-    Ok(())
-}
-
-/// A table of two tied rules, and what is said of them.
-fn ties(alloc: Global) -> Result<NamedFiles, Fail> {
-    let table = joined(alloc, &[SWITCH, FROM_8, TO_8])?;
-    files_of(alloc, "one.table", table.as_str(), "one.certificates", TIES)
-}
-
-#[test]
-fn plans_and_checks_say_what_fails(rt: HostRuntime) -> Result<(), Fail> {
-    let alloc = rt.alloc();
-    let first = "monocle: cannot read one.table\n";
-    assert!(rt; fails_reading(alloc, CHECK, ties(alloc)?, 0, first)?);
-    let second = "monocle: cannot read one.certificates\n";
-    assert!(rt; fails_reading(alloc, CHECK, ties(alloc)?, 1, second)?);
-    assert!(rt; fails_writing(alloc, CHECK, ties(alloc)?)?);
-    assert!(rt; fails_writing(alloc, "plan one.table", ties(alloc)?)?);
-    assert!(rt; fails_writing(alloc, "plan one.table --certificates", ties(alloc)?)?);
+fn what_is_out_of_form_and_what_fails_is_said(rt: HostRuntime) -> Result<(), Fail> {
+    assert!(rt; all_end_so(rt.alloc(), &OUT_OF_FORM)?);
+    assert!(rt; all_end_so(rt.alloc(), &FAULTS)?);
     Ok(())
 }

@@ -1,14 +1,18 @@
 //! `replay`: the run of a trace.
 
-ghost use Rattle.std.specs.Prelude.{◌≡◌, ◌≢◌, ◌∷◌, List, IfSome};
+ghost use Rattle.std.specs.Prelude.{◌≡◌, ◌≢◌, ◌≤◌, [], ◌∷◌, List, Err, Some, None, IfSome, IfOk, OnOk, IsErrOf, true};
+ghost use Rattle.std.specs.Result.{IfErr};
 ghost use Rattle.mon_world.specs.Causes.{Rose};
+ghost use Rattle.mon_world.specs.declared.calls.Call.TheVariants.{Read};
 ghost use Rattle.mon_world.specs.declared.history.Entry.{Entry};
+ghost use Rattle.mon_trace.specs.Grammar.{trace_of};
 ghost use Rattle.mon_words.specs.declared.command.Command.{Command};
-ghost use Rattle.monocle.specs.Replay.{IsRunOf, answer_of};
+ghost use Rattle.monocle.specs.Calls.{Quiet, Called};
+ghost use Rattle.monocle.specs.Ending.{IsTraceEnd, IsEndOf};
+ghost use Rattle.monocle.specs.Replay.{IsRunOf, IsFile, IsTraceFile, answer_of};
 ghost use Rattle.monocle.specs.Running.{Replays};
-ghost use Rattle.monocle.specs.Saying.{Says, IsTextOf};
 
-use crate::saying::{content_of, put, refused};
+use crate::saying::{content_of, out_of_memory, put, refused};
 use crate::tables::push_tables;
 use mon_core::{Core, LoopEnd, legal_passes_frames, run_loop};
 use mon_trace::{Trace, TraceFault, TraceHub, read_trace};
@@ -35,39 +39,59 @@ fn answer(alloc: Global, trace: Trace) -> Option<Vec<u8>>
     }
 }
 
+/// The trace of a text.
+fn trace_in(alloc: Global, text: &[u8]) -> Result<Trace, TraceFault>
+    ensures found { IfOk result (λ trace. trace_of text.now ≡ Some trace) }
+    ensures bad { result ≡ Err TraceFault.Bad → trace_of text.now ≡ None }
+{
+    read_trace(alloc, text)
+}
+
+/// Reads the settings and then the trace. Where there is no trace, says why, and gives the status: 3 where a file can't be
+/// read, 5 where the trace isn't one, 7 for want of memory.
+fn traced<D: Desk>(alloc: Global, settings: &str, trace: &str, desk: &mut D) -> Result<Trace, u8>
+    ensures found { IfOk result (λ x. IfSome (D.files desk.old) (λ files. IsTraceFile files settings.now trace.now x)) }
+    ensures quiet { OnOk result (Quiet (Read settings.now true ∷ Read trace.now true ∷ []) (D.said desk.old) (D.said desk.new) (D.calls desk.old) (D.calls desk.new)) }
+    ensures ended { IfErr result (λ status. Called (IsTraceEnd (D.files desk.old) settings.now trace.now status) (D.said desk.old) (D.said desk.new) (D.calls desk.old) (D.calls desk.new)) }
+    ensures read { IsErrOf result 3 → Rose (D.read_faults desk.old) (D.read_faults desk.new) }
+    ensures files { D.files desk.new ≡ D.files desk.old }
+    ensures written { D.written desk.new ≡ D.written desk.old }
+    ensures reads { D.read_faults desk.old ≤ D.read_faults desk.new }
+    ensures writes { D.write_faults desk.new ≡ D.write_faults desk.old }
+{
+    let _ = content_of(alloc, settings, desk)?;
+    let text = match content_of(alloc, trace, desk) {
+        Ok(text) => text,
+        Err(status) => return Err(status),
+    };
+    match trace_in(alloc, &text) {
+        Ok(traced) => Ok(traced),
+        Err(TraceFault::Bad) => Err(refused(alloc, desk, 5, b"monocle: trace\n")),
+        Err(TraceFault::OutOfMemory) => Err(out_of_memory(alloc, desk)),
+    }
+}
+
 /// Reads the settings and then the trace, runs its session, and writes the text of the history and the tables at its
 /// end. It answers 0, 3 where a file can't be read, 5 where the trace isn't one, 6 where writing fails, and 7 for want of
 /// memory.
 pub fn replay<D: Desk>(alloc: Global, settings: &str, trace: &str, desk: &mut D) -> u8
     // What is written at status 0 is the text of a legal history of the trace's events, and behind it the expected
     // entries of each session that has not ended.
-    ensures run { Replays (D.files desk.old) trace.now result (D.written desk.old) (D.written desk.new) }
+    ensures run { Replays (D.files desk.old) settings.now trace.now result (D.written desk.old) (D.written desk.new) }
     // Nothing is written at another status, but for a prefix of that where writing failed.
     ensures unwritten { result ≢ 0 → result ≢ 6 → D.written desk.new ≡ D.written desk.old }
+    // Settings are read before the trace, and there is one write.
+    ensures ended { Called (IsEndOf (D.files desk.old) (Command.Replay settings.now trace.now) result) (D.said desk.old) (D.said desk.new) (D.calls desk.old) (D.calls desk.new) }
     ensures read { result ≡ 3 → Rose (D.read_faults desk.old) (D.read_faults desk.new) }
     ensures write { result ≡ 6 → Rose (D.write_faults desk.old) (D.write_faults desk.new) }
-    ensures said { Says (IsTextOf (D.files desk.old) (Command.Replay settings.now trace.now)) result (D.said desk.old) (D.said desk.new) }
     ensures words { result ≢ 2 }
 {
-    match content_of(alloc, settings, desk) {
-        Ok(_) => {}
-        Err(status) => return status,
-    }
-    let said = match content_of(alloc, trace, desk) {
-        Ok(said) => said,
-        Err(status) => return status,
-    };
-    let read = read_trace(alloc, &said);
-    drop(said);
-    let traced = match read {
+    let traced = match traced(alloc, settings, trace, desk) {
         Ok(traced) => traced,
-        Err(TraceFault::Bad) => return refused(alloc, desk, 5, b"monocle: trace\n"),
-        Err(TraceFault::OutOfMemory) => {
-            return refused(alloc, desk, 7, b"monocle: out of memory\n");
-        }
+        Err(status) => return status,
     };
     match answer(alloc, traced) {
         Some(bytes) => put(alloc, &bytes, 0, desk),
-        None => refused(alloc, desk, 7, b"monocle: out of memory\n"),
+        None => out_of_memory(alloc, desk),
     }
 }

@@ -1,19 +1,21 @@
 //! What the program reads, writes and says.
 
-ghost use Rattle.std.specs.Prelude.{◌≡◌, ◌≤◌, ◌<◌, Some, IfSome, IfOk, OnOk, IsErrOf};
+ghost use Rattle.std.specs.Prelude.{◌≡◌, ◌≤◌, ◌<◌, [], ◌∷◌, Some, IfSome, IfOk, OnOk, IsErrOf, true, string_bytes};
 ghost use Rattle.std.specs.Result.{IfErr};
 ghost use Rattle.mon_world.specs.Causes.{Rose};
-ghost use Rattle.mon_world.specs.Files.{with_more, AllOrNothing};
+ghost use Rattle.mon_world.specs.Files.{with_more};
+ghost use Rattle.mon_world.specs.declared.calls.Call.TheVariants.{Read};
 ghost use Rattle.monocle.specs.Running.{WritesPrefix};
-ghost use Rattle.monocle.specs.Saying.{Says, IsReadText, IsWriteText, unread};
+ghost use Rattle.monocle.specs.Calls.{Quiet, Called};
+ghost use Rattle.monocle.specs.Ending.{IsSay, IsReadEnd, IsWriteEnd, IsWant, unread};
 
-use mon_world::{Desk, DeskFault};
+use mon_world::{Desk, DeskFault, OutOfMemory};
 use std::alloc::Global;
 
 /// Says a text, and gives back the status that it is said at.
 pub(crate) fn refused<D: Desk>(alloc: Global, desk: &mut D, status: u8, text: &[u8]) -> u8
     ensures status { result ≡ status }
-    ensures said { AllOrNothing text.now (D.said desk.old) (D.said desk.new) }
+    ensures called { Called (IsSay text.now) (D.said desk.old) (D.said desk.new) (D.calls desk.old) (D.calls desk.new) }
     ensures files { D.files desk.new ≡ D.files desk.old }
     ensures written { D.written desk.new ≡ D.written desk.old }
     ensures reads { D.read_faults desk.new ≡ D.read_faults desk.old }
@@ -23,26 +25,31 @@ pub(crate) fn refused<D: Desk>(alloc: Global, desk: &mut D, status: u8, text: &[
     status
 }
 
-/// Says which file can't be read, or nothing for want of memory.
-pub(crate) fn unread<D: Desk>(alloc: Global, desk: &mut D, name: &str) -> u8
-    ensures status { result ≡ 3 }
-    ensures said { AllOrNothing (unread name.now) (D.said desk.old) (D.said desk.new) }
+/// Says that memory ended, and gives the status of it.
+pub(crate) fn out_of_memory<D: Desk>(alloc: Global, desk: &mut D) -> u8
+    ensures status { result ≡ 7 }
+    ensures called { Called (IsWant 7) (D.said desk.old) (D.said desk.new) (D.calls desk.old) (D.calls desk.new) }
     ensures files { D.files desk.new ≡ D.files desk.old }
     ensures written { D.written desk.new ≡ D.written desk.old }
     ensures reads { D.read_faults desk.new ≡ D.read_faults desk.old }
     ensures writes { D.write_faults desk.new ≡ D.write_faults desk.old }
 {
-    match format!(in alloc; "monocle: cannot read {name}\n") {
-        Ok(text) => refused(alloc, desk, 3, text.as_bytes()),
-        Err(_) => 3,
-    }
+    refused(alloc, desk, 7, b"monocle: out of memory\n")
+}
+
+/// What is said of a file that can't be read.
+fn unread(alloc: Global, name: &str) -> Result<String, OutOfMemory>
+    ensures { IfOk result (λ text. string_bytes text ≡ unread name.now) }
+{
+    let text = format!(in alloc; "monocle: cannot read {name}\n")?;
+    Ok(text)
 }
 
 /// The content of a file. Where it can't be read, says so, and gives the status: 3, or 7 for want of memory.
 pub(crate) fn content_of<D: Desk>(alloc: Global, name: &str, desk: &mut D) -> Result<Vec<u8>, u8>
     ensures content { IfOk result (λ bytes. IfSome (D.files desk.old) (λ files. files name.now ≡ Some bytes.items)) }
-    ensures silent { OnOk result (D.said desk.new ≡ D.said desk.old) }
-    ensures said { IfErr result (λ status. Says (IsReadText name.now) status (D.said desk.old) (D.said desk.new)) }
+    ensures quiet { OnOk result (Quiet (Read name.now true ∷ []) (D.said desk.old) (D.said desk.new) (D.calls desk.old) (D.calls desk.new)) }
+    ensures ended { IfErr result (λ status. Called (IsReadEnd [] name.now status) (D.said desk.old) (D.said desk.new) (D.calls desk.old) (D.calls desk.new)) }
     ensures read { IsErrOf result 3 → Rose (D.read_faults desk.old) (D.read_faults desk.new) }
     ensures files { D.files desk.new ≡ D.files desk.old }
     ensures written { D.written desk.new ≡ D.written desk.old }
@@ -51,15 +58,18 @@ pub(crate) fn content_of<D: Desk>(alloc: Global, name: &str, desk: &mut D) -> Re
 {
     match desk.read(alloc, name) {
         Ok(bytes) => Ok(bytes),
-        Err(DeskFault::Failed) => Err(unread(alloc, desk, name)),
-        Err(DeskFault::OutOfMemory) => Err(refused(alloc, desk, 7, b"monocle: out of memory\n")),
+        Err(DeskFault::Failed) => match unread(alloc, name) {
+            Ok(text) => Err(refused(alloc, desk, 3, text.as_bytes())),
+            Err(_) => Err(out_of_memory(alloc, desk)),
+        },
+        Err(DeskFault::OutOfMemory) => Err(out_of_memory(alloc, desk)),
     }
 }
 
 /// Writes bytes and gives the status, or says why they can't be written and gives 6, or 7 for want of memory.
 pub(crate) fn put<D: Desk>(alloc: Global, bytes: &[u8], status: u8, desk: &mut D) -> u8
     requires { status < 2 }
-    ensures said { Says (IsWriteText status) result (D.said desk.old) (D.said desk.new) }
+    ensures ended { Called (IsWriteEnd [] status result) (D.said desk.old) (D.said desk.new) (D.calls desk.old) (D.calls desk.new) }
     ensures done { result < 2 → result ≡ status }
     ensures written { result < 2 → D.written desk.new ≡ with_more bytes.now (D.written desk.old) }
     ensures prefix { result ≡ 6 → WritesPrefix bytes.now (D.written desk.old) (D.written desk.new) }
@@ -71,6 +81,6 @@ pub(crate) fn put<D: Desk>(alloc: Global, bytes: &[u8], status: u8, desk: &mut D
     match desk.write(alloc, bytes) {
         Ok(()) => status,
         Err(DeskFault::Failed) => refused(alloc, desk, 6, b"monocle: cannot write\n"),
-        Err(DeskFault::OutOfMemory) => refused(alloc, desk, 7, b"monocle: out of memory\n"),
+        Err(DeskFault::OutOfMemory) => out_of_memory(alloc, desk),
     }
 }

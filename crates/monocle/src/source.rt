@@ -1,15 +1,18 @@
 //! Where `plan` and `check` take their table from.
 
-ghost use Rattle.std.specs.Prelude.{◌≡◌, ◌≤◌, List, Err, IfSome, IfOk, OnOk, IsErrOf};
+ghost use Rattle.std.specs.Prelude.{◌≡◌, ◌≤◌, [], ◌∷◌, List, Err, true, IfSome, IfOk, OnOk, IsErrOf};
 ghost use Rattle.std.specs.Result.{IfErr};
 ghost use Rattle.mon_world.specs.Causes.{Rose};
 ghost use Rattle.mon_table.specs.declared.rule.Rule.{Rule};
 ghost use Rattle.mon_shows.specs.Views.{Viewing};
 ghost use Rattle.mon_table_file.specs.TableFile.{IsTableFile};
 ghost use Rattle.monocle.specs.Planning.{Gives};
-ghost use Rattle.monocle.specs.Saying.{Says, IsSourceText};
+ghost use Rattle.mon_words.specs.declared.command.Source.TheVariants.{File};
+ghost use Rattle.mon_world.specs.declared.calls.Call.TheVariants.{Read};
+ghost use Rattle.monocle.specs.Calls.{Quiet, Called};
+ghost use Rattle.monocle.specs.Ending.{IsSourceEnd, reads_of};
 
-use crate::saying::{content_of, refused};
+use crate::saying::{content_of, out_of_memory, refused};
 use mon_plan::{FileFault, generate, read_table};
 use mon_shows::View;
 use mon_table::Table;
@@ -25,6 +28,26 @@ fn table_in(alloc: Global, text: &[u8]) -> Result<(View, Table), FileFault>
     read_table(alloc, text)
 }
 
+/// The view and the table of the file of this name. Where there is none, says why, and gives the status: 3 where the file
+/// can't be read, 5 where it is no table, 7 for want of memory.
+fn table_of_file<D: Desk>(alloc: Global, name: &str, desk: &mut D) -> Result<(View, Table), u8>
+    ensures gives { IfOk result (λ x. IfSome (D.files desk.old) (λ files. Gives files (File name.now) x.0 x.1)) }
+    ensures quiet { OnOk result (Quiet (Read name.now true ∷ []) (D.said desk.old) (D.said desk.new) (D.calls desk.old) (D.calls desk.new)) }
+    ensures ended { IfErr result (λ status. Called (IsSourceEnd (D.files desk.old) (File name.now) status) (D.said desk.old) (D.said desk.new) (D.calls desk.old) (D.calls desk.new)) }
+    ensures read { IsErrOf result 3 → Rose (D.read_faults desk.old) (D.read_faults desk.new) }
+    ensures files { D.files desk.new ≡ D.files desk.old }
+    ensures written { D.written desk.new ≡ D.written desk.old }
+    ensures reads { D.read_faults desk.old ≤ D.read_faults desk.new }
+    ensures writes { D.write_faults desk.new ≡ D.write_faults desk.old }
+{
+    let text = content_of(alloc, name, desk)?;
+    match table_in(alloc, &text) {
+        Ok(found) => Ok(found),
+        Err(FileFault::Bad) => Err(refused(alloc, desk, 5, b"monocle: table\n")),
+        Err(FileFault::OutOfMemory) => Err(out_of_memory(alloc, desk)),
+    }
+}
+
 /// The view and the table of a source. Where there is none, says why, and gives the status: 3 where the file can't be
 /// read, 5 where it is no table, 7 for want of memory.
 pub(crate) fn table_of<D: Desk>(
@@ -33,8 +56,8 @@ pub(crate) fn table_of<D: Desk>(
     desk: &mut D,
 ) -> Result<(View, Table), u8>
     ensures gives { IfOk result (λ x. IfSome (D.files desk.old) (λ files. Gives files source.now x.0 x.1)) }
-    ensures silent { OnOk result (D.said desk.new ≡ D.said desk.old) }
-    ensures said { IfErr result (λ status. Says (IsSourceText (D.files desk.old) source.now) status (D.said desk.old) (D.said desk.new)) }
+    ensures quiet { OnOk result (Quiet (reads_of source.now) (D.said desk.old) (D.said desk.new) (D.calls desk.old) (D.calls desk.new)) }
+    ensures ended { IfErr result (λ status. Called (IsSourceEnd (D.files desk.old) source.now status) (D.said desk.old) (D.said desk.new) (D.calls desk.old) (D.calls desk.new)) }
     ensures read { IsErrOf result 3 → Rose (D.read_faults desk.old) (D.read_faults desk.new) }
     ensures files { D.files desk.new ≡ D.files desk.old }
     ensures written { D.written desk.new ≡ D.written desk.old }
@@ -42,19 +65,10 @@ pub(crate) fn table_of<D: Desk>(
     ensures writes { D.write_faults desk.new ≡ D.write_faults desk.old }
 {
     match source {
-        Source::File(name) => {
-            let text = content_of(alloc, name.as_str(), desk)?;
-            match table_in(alloc, &text) {
-                Ok(found) => Ok(found),
-                Err(FileFault::Bad) => Err(refused(alloc, desk, 5, b"monocle: table\n")),
-                Err(FileFault::OutOfMemory) => {
-                    Err(refused(alloc, desk, 7, b"monocle: out of memory\n"))
-                }
-            }
-        }
+        Source::File(name) => table_of_file(alloc, name.as_str(), desk),
         Source::Generate { n, seed } => match generate(alloc, *n, *seed) {
             Ok(found) => Ok(found),
-            Err(_) => Err(refused(alloc, desk, 7, b"monocle: out of memory\n")),
+            Err(_) => Err(out_of_memory(alloc, desk)),
         },
     }
 }

@@ -33,6 +33,8 @@ impl<R: Files + Print + Eprint + Alloc<A = Global>> Desk for StdDesk<R> {
 
     ghost said = { λ _. None };
 
+    ghost calls = { λ _. None };
+
     ghost read_faults = { λ d. d.read_faults };
 
     ghost write_faults = { λ d. d.write_faults };

@@ -1,65 +1,63 @@
 //! Worked replays.
 
-use crate::runs::{ends, fails_reading, fails_writing, files_of};
+use crate::runs::{Failing, ends, files_of};
 use mon_world::NamedFiles;
 use std::alloc::Global;
 use std::test::Fail;
 
 const REPLAY: &str = "replay settings.json one.trace";
 
-/// Settings and a trace.
-fn traced(alloc: Global, trace: &str) -> Result<NamedFiles, Fail> {
-    files_of(alloc, "settings.json", "{}", "one.trace", trace)
+/// Settings, and a trace with these records.
+fn traced(alloc: Global, records: &str) -> Result<NamedFiles, Fail> {
+    let trace = format!(in alloc; "monocle-trace 1 0000000000000001\n{records}")?;
+    files_of(alloc, "settings.json", "{}", "one.trace", trace.as_str())
 }
 
-/// Whether a replay of this trace ends with this status, and writes and says this alone.
-pub(crate) fn replays(
-    alloc: Global,
-    trace: &str,
-    status: u8,
-    written: &str,
-    said: &str,
-) -> Result<bool, Fail> {
-    ends(alloc, REPLAY, traced(alloc, trace)?, status, written, said)
+/// Whether a replay of these records writes this alone.
+pub(crate) fn replays(alloc: Global, records: &str, written: &str) -> Result<bool, Fail> {
+    let files = traced(alloc, records)?;
+    ends(alloc, REPLAY, files, Failing::Nothing, 0, written, "")
 }
+
+/// Records of one frame, and its line.
+const RECORDS: &str = "open\nfrom controller 0 0100000800000001\n";
+
+const LINE: &str = "2 put 0 switch 0100000800000001\n";
+
+/// Records and what is written of them: a faulty frame ends the session, and what comes later is ignored; then both
+/// directions, a frame in two pieces, and frames before a fault in one piece.
+const REPLAYS: [(&str, &str); 4] = [
+    ("", ""),
+    (RECORDS, LINE),
+    (
+        "open\nfrom controller 0 0100000700000001\nfrom controller 0 0100000800000001\n",
+        "2 end 0\n",
+    ),
+    (
+        "open\nfrom switch 0 01000008000000\nfrom controller 0 0100000800000001\nfrom switch 0 02\nfrom switch 0 0102000800000003020200080000000401020008\n",
+        "3 put 0 switch 0100000800000001\n4 put 0 controller 0100000800000002\n5 put 0 controller 0102000800000003\n5 end 0\n",
+    ),
+];
 
 #[test]
-fn frames_are_passed_on(rt: HostRuntime) -> Result<(), Fail> {
-    let alloc = rt.alloc();
-    let trace = "monocle-trace 1 0000000000000001\n";
-    assert!(rt; replays(alloc, trace, 0, "", "")?);
-    let trace = "monocle-trace 1 0000000000000001\nopen\nfrom controller 0 0100000800000001\n";
-    assert!(rt; replays(alloc, trace, 0, "2 put 0 switch 0100000800000001\n", "")?);
-    Ok(())
-}
-
-#[test]
-fn a_faulty_frame_ends_the_session(rt: HostRuntime) -> Result<(), Fail> {
-    let alloc = rt.alloc();
-    // what comes later is ignored
-    let trace =
-        "monocle-trace 1 0000000000000001\nopen\nfrom controller 0 0100000700000001\nfrom controller 0 0100000800000001\n";
-    assert!(rt; replays(alloc, trace, 0, "2 end 0\n", "")?);
-    // both directions, a frame in two pieces, and frames before a fault in one piece
-    let trace =
-        "monocle-trace 1 0000000000000001\nopen\nfrom switch 0 01000008000000\nfrom controller 0 0100000800000001\nfrom switch 0 02\nfrom switch 0 0102000800000003020200080000000401020008\n";
-    let written =
-        "3 put 0 switch 0100000800000001\n4 put 0 controller 0100000800000002\n5 put 0 controller 0102000800000003\n5 end 0\n";
-    assert!(rt; replays(alloc, trace, 0, written, "")?);
-    Ok(())
-}
-
-/// A trace in which the switch sends a frame of these digits, in pieces of 4096 bytes.
-fn pieces_of(alloc: Global, digits: &str) -> Result<String, Fail> {
-    let mut trace = String::from_str(alloc, "monocle-trace 1 0000000000000001\nopen\n")?;
-    for piece in digits.as_bytes().chunks(8192) {
-        trace.push_str("from switch 0 ")?;
-        for digit in piece {
-            trace.push(char::from(*digit))?;
-        }
-        trace.push_str("\n")?;
+fn frames_are_passed_on_up_to_a_faulty_one(rt: HostRuntime) -> Result<(), Fail> {
+    for (records, written) in REPLAYS {
+        assert!(rt; replays(rt.alloc(), records, written)?, "at {records}");
     }
-    Ok(trace)
+    Ok(())
+}
+
+/// Records in which the switch sends a frame of these digits, in pieces of 4096 bytes.
+fn pieces_of(alloc: Global, digits: &str) -> Result<String, Fail> {
+    let mut records = String::from_str(alloc, "open\n")?;
+    for piece in digits.as_bytes().chunks(8192) {
+        records.push_str("from switch 0 ")?;
+        for digit in piece {
+            records.push(char::from(*digit))?;
+        }
+        records.push_str("\n")?;
+    }
+    Ok(records)
 }
 
 #[test]
@@ -70,60 +68,80 @@ fn the_largest_frame_comes_with_its_last_byte(rt: HostRuntime) -> Result<(), Fai
     for _ in 0..65_527 {
         digits.push_str("5a")?;
     }
-    let trace = pieces_of(alloc, digits.as_str())?;
+    let records = pieces_of(alloc, digits.as_str())?;
     let written = format!(in alloc; "17 put 0 controller {digits}\n")?;
-    assert!(rt; replays(alloc, trace.as_str(), 0, written.as_str(), "")?);
+    assert!(rt; replays(alloc, records.as_str(), written.as_str())?);
     Ok(())
 }
 
-/// Whether words are refused.
-fn are_bad(alloc: Global, words: &str) -> Result<bool, Fail> {
-    let files = traced(alloc, "monocle-trace 1 0000000000000001\n")?;
-    ends(alloc, words, files, 2, "", "monocle: bad words\n")
-}
+const BAD: [&str; 11] = [
+    "",
+    "replay",
+    "replay settings.json",
+    "replay settings.json one.trace more",
+    "replays settings.json one.trace",
+    "replay -s one.trace",
+    "replay settings.json --trace",
+    "serve settings.json",
+    "plan",
+    "plan one.trace --workers 65",
+    "check one.trace",
+];
 
 #[test]
 fn words_that_ask_for_nothing_are_refused(rt: HostRuntime) -> Result<(), Fail> {
-    let lines = [
-        "",
-        "replay",
-        "replay settings.json",
-        "replay settings.json one.trace more",
-        "replays settings.json one.trace",
-        "replay -s one.trace",
-        "replay settings.json --trace",
-        "serve settings.json",
-        "plan",
-        "plan one.trace --workers 65",
-        "check one.trace",
-    ];
-    for line in lines {
-        assert!(rt; are_bad(rt.alloc(), line)?, "at {line}");
+    let alloc = rt.alloc();
+    for words in BAD {
+        let files = traced(alloc, RECORDS)?;
+        let said = "monocle: bad words\n";
+        assert!(rt;
+            ends(alloc, words, files, Failing::Nothing, 2, "", said)?,
+            "at {words}"
+        );
     }
     Ok(())
+}
+
+/// What fails, the status, and what is written and said. A second write would fail.
+const FAULTS: [(Failing, u8, &str, &str); 4] = [
+    (
+        Failing::Read(0),
+        3,
+        "",
+        "monocle: cannot read settings.json\n",
+    ),
+    (Failing::Read(1), 3, "", "monocle: cannot read one.trace\n"),
+    (Failing::Write(0), 6, "", "monocle: cannot write\n"),
+    (Failing::Write(1), 0, LINE, ""),
+];
+
+#[test]
+fn failing_reads_and_writes_are_said(rt: HostRuntime) -> Result<(), Fail> {
+    let alloc = rt.alloc();
+    for (failing, status, written, said) in FAULTS {
+        let files = traced(alloc, RECORDS)?;
+        assert!(rt;
+            ends(alloc, REPLAY, files, failing, status, written, said)?,
+            "at {said}"
+        );
+    }
+    Ok(())
+}
+
+/// Whether a replay of a trace with this text, by this name, ends with this status and says this.
+fn is_refused(alloc: Global, text: &str, name: &str, status: u8, said: &str) -> Result<bool, Fail> {
+    let files = files_of(alloc, "settings.json", "{}", name, text)?;
+    ends(alloc, REPLAY, files, Failing::Nothing, status, "", said)
 }
 
 #[test]
 fn what_is_no_trace_is_refused(rt: HostRuntime) -> Result<(), Fail> {
     let alloc = rt.alloc();
     let said = "monocle: trace\n";
-    assert!(rt; replays(alloc, "", 5, "", said)?);
-    let trace = "monocle-trace 1 0000000000000001\nclose 0\n";
-    assert!(rt; replays(alloc, trace, 5, "", said)?);
-    Ok(())
-}
-
-#[test]
-fn failing_reads_and_writes_are_said(rt: HostRuntime) -> Result<(), Fail> {
-    let alloc = rt.alloc();
-    let trace = "monocle-trace 1 0000000000000001\nopen\nfrom controller 0 0100000800000001\n";
-    let settings = "monocle: cannot read settings.json\n";
-    assert!(rt; fails_reading(alloc, REPLAY, traced(alloc, trace)?, 0, settings)?);
-    let first = "monocle: cannot read one.trace\n";
-    assert!(rt; fails_reading(alloc, REPLAY, traced(alloc, trace)?, 1, first)?);
-    let words = "replay settings.json two.trace";
-    let second = "monocle: cannot read two.trace\n";
-    assert!(rt; ends(alloc, words, traced(alloc, trace)?, 3, "", second)?);
-    assert!(rt; fails_writing(alloc, REPLAY, traced(alloc, trace)?)?);
+    assert!(rt; is_refused(alloc, "", "one.trace", 5, said)?);
+    let text = "monocle-trace 1 0000000000000001\nclose 0\n";
+    assert!(rt; is_refused(alloc, text, "one.trace", 5, said)?);
+    let missing = "monocle: cannot read one.trace\n";
+    assert!(rt; is_refused(alloc, text, "two.trace", 3, missing)?);
     Ok(())
 }

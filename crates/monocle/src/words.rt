@@ -5,12 +5,13 @@ ghost use Rattle.mon_world.specs.Causes.{Rose};
 ghost use Rattle.mon_words.specs.declared.command.Command.{Command};
 ghost use Rattle.mon_words.specs.Words.{Spells};
 ghost use Rattle.monocle.specs.Running.{Does};
-ghost use Rattle.monocle.specs.Saying.{Says, IsTextFor};
+ghost use Rattle.monocle.specs.Calls.{Called};
+ghost use Rattle.monocle.specs.Ending.{IsEndFor};
 
 use crate::check::check;
 use crate::plan::plan;
 use crate::replay::replay;
-use crate::saying::refused;
+use crate::saying::{out_of_memory, refused};
 use mon_words::{Command, WordsFault, read_words};
 use mon_world::{Desk, Text};
 use std::alloc::Global;
@@ -24,7 +25,7 @@ pub fn monocle<D: Desk>(alloc: Global, words: &[Text], desk: &mut D) -> u8
     ensures unwritten { result ≢ 0 → result ≢ 1 → result ≢ 6 → D.written desk.new ≡ D.written desk.old }
     ensures read { result ≡ 3 → Rose (D.read_faults desk.old) (D.read_faults desk.new) }
     ensures write { result ≡ 6 → Rose (D.write_faults desk.old) (D.write_faults desk.new) }
-    ensures said { Says (IsTextFor (D.files desk.old) words.now) result (D.said desk.old) (D.said desk.new) }
+    ensures ended { Called (IsEndFor (D.files desk.old) words.now result) (D.said desk.old) (D.said desk.new) (D.calls desk.old) (D.calls desk.new) }
 {
     match read_words(alloc, words) {
         Ok(Command::Replay { settings, trace }) => {
@@ -44,6 +45,6 @@ pub fn monocle<D: Desk>(alloc: Global, words: &[Text], desk: &mut D) -> u8
             },
         ) => check(alloc, &source, certificates.as_str(), desk),
         Err(WordsFault::Bad) => refused(alloc, desk, 2, b"monocle: bad words\n"),
-        Err(WordsFault::OutOfMemory) => refused(alloc, desk, 7, b"monocle: out of memory\n"),
+        Err(WordsFault::OutOfMemory) => out_of_memory(alloc, desk),
     }
 }
