@@ -1,6 +1,6 @@
 //! Worked logs and texts.
 
-ghost use Rattle.std.specs.Prelude.{OnOk, IfOk};
+ghost use Rattle.std.specs.Prelude.{IfOk};
 ghost use Rattle.mon_cnf.specs.Truth.{Within};
 
 use super::*;
@@ -8,31 +8,29 @@ use mon_cnf::{Clause, Formula, Lit};
 use std::alloc::Global;
 use std::test::*;
 
-/// The literals that are written as a variable's number plus one, negative where the literal is. Those of no variable
-/// are left out.
-fn clause(alloc: Global, vars: u32, literals: &[i32]) -> Result<Clause, OutOfMemory>
-    ensures { IfOk result (Within vars) }
+/// The clause of a literal of each of two variables.
+fn pair(alloc: Global, first: bool, second: bool) -> Result<Clause, OutOfMemory>
+    ensures { IfOk result (Within 2) }
 {
     let mut clause = Clause::new(alloc);
-    for literal in literals {
-        let var = literal.unsigned_abs().saturating_sub(1);
-        if var < vars {
-            clause.push(Lit {
-                var,
-                positive: *literal > 0,
-            })?;
-        }
-    }
+    clause.push(Lit {
+        var: 0,
+        positive: first,
+    })?;
+    clause.push(Lit {
+        var: 1,
+        positive: second,
+    })?;
     Ok(clause)
 }
 
 /// Two variables, and all four clauses of both.
 fn all_of_two(alloc: Global) -> Result<Formula, OutOfMemory> {
     let mut f = Formula::new(alloc, 2);
-    for literals in [[1, 2], [1, -2], [-1, 2], [-1, -2]] {
-        let vars = f.vars();
-        f.push(clause(alloc, vars, &literals)?)?;
-    }
+    f.push(pair(alloc, true, true)?)?;
+    f.push(pair(alloc, true, false)?)?;
+    f.push(pair(alloc, false, true)?)?;
+    f.push(pair(alloc, false, false)?)?;
     Ok(f)
 }
 
