@@ -1,6 +1,5 @@
 -- Who wins for a header, by going through a table in order.
 use Rattle.std.proofs.Common.{◌≡◌, ℕ, suc, ◌<◌, ◌≤◌, Bool, true, false, not, cond, ◌&&◌, ◌||◌, List, [], ◌∷◌, map, length, get_or, drop, Some, None, Option, refl, sym, ap, subst, ◌∙◌, arith, ⊎_elim, drop-cons}
-use Rattle.std.specs.Prelude.{◌==◌}
 use Rattle.std.specs.List.{filter, list_any, AllByRecursion}
 use Rattle.std.proofs.lemmas.Bool.{cases_Bool, and_left, and_right, and_from, false≢true, eq-eqb, ne_eqb}
 use Rattle.mon_header.specs.declared.header.Header.{Header}
