@@ -32,7 +32,7 @@ class Unsayable(Exception):
 
 def number(word: str, largest: int) -> int:
     """A decimal number, or a hexadecimal one behind 0x."""
-    if not re.fullmatch("0x[0-9a-fA-F]+|[0-9]+", word):
+    if not re.fullmatch("0x[0-9a-fA-F]+|0|[1-9][0-9]*", word):
         raise NotUnderstood(f"`{word}` is no number")
     value = int(word, 16) if word.startswith("0x") else int(word)
     if value > largest:
@@ -50,7 +50,7 @@ def ethernet(word: str) -> int:
 
 def ipv4(word: str) -> int:
     parts = word.split(".")
-    if len(parts) != 4 or not all(re.fullmatch("[0-9]{1,3}", part) and int(part) < 256 for part in parts):
+    if len(parts) != 4 or not all(re.fullmatch("0|[1-9][0-9]{0,2}", part) and int(part) < 256 for part in parts):
         raise NotUnderstood(f"`{word}` is no IPv4 address")
     return int.from_bytes(bytes(map(int, parts)), "big")
 

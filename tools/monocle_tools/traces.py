@@ -142,7 +142,7 @@ def read_event(lines: Lines, words: List[str], line: str) -> NamedTuple:
     if kind == "line":
         return Report(record, read_report(lines, line.split(" ", 2)[2] if len(words) > 2 else ""))
     form = FORMS.get(kind, "").split(" ")
-    if len(words) != len(form):
+    if kind not in FORMS or len(words) != len(form):
         raise lines.bad("is no line that `monocle replay` writes")
     numbers = [lines.number_of(word, 0, LARGEST, "this word") for word, part in zip(words, form) if part == "N"]
     if kind in ("put", "lost"):

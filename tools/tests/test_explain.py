@@ -153,6 +153,10 @@ class Explain(Case):
         self.assertEqual(
             said, 'explain: standard input:1: is no report line of its event: {"event":"silent","session":3}\n'
         )
+        for line in ("4", "4 putt 0", "4 end", "4 offer 1 0 1 4 5", "4 verdict 1 maybe", "table 0 100"):
+            ran = tool("explain", "-", text=f"4 end 0\n{line}\n")
+            self.assertEqual((ran.status, ran.out), (2, ""), line)
+            self.assertTrue(ran.said.startswith("explain: standard input:2: is no"), ran.said)
         said = tool("explain", "-", text="4 put 0 switch 0100\n").said
         self.assertEqual(
             said, "explain: standard input:1: is no frame to a switch or controller: 4 put 0 switch 0100\n"

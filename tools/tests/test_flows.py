@@ -40,6 +40,8 @@ BAD = [
     ("prioritty=5 actions=drop", "`prioritty=5` is unknown"),
     ("ip,nw_dst=10.0.0 actions=drop", "`10.0.0` is no IPv4 address"),
     ("ip,nw_dst=10.0.0.0/33 actions=drop", "`33` is above 32"),
+    ("ip,nw_dst=10.0.0.010 actions=drop", "`10.0.0.010` is no IPv4 address"),
+    ("priority=010 actions=drop", "`010` is no number"),
     ("tcp,udp actions=drop", "`udp` says nw_proto anew"),
     ("in_port=eth0 actions=drop", "`eth0` is no port's number; `ovs-ofctl --no-names dump-flows` writes numbers"),
     ("dl_src=02:00 actions=drop", "`02:00` is no Ethernet address"),
