@@ -42,14 +42,12 @@ class Action(NamedTuple):
         return struct.pack(">HH", self.kind, 4 + struct.calcsize(layout)) + struct.pack(layout, *values[:held])
 
     def words(self) -> str:
-        """As ovs-ofctl writes it."""
+        """As ovs-ofctl writes it; the length of an OUTPUT says something to the controller alone."""
         port = PORT_NAMES.get(self.value, f"output:{self.value}")
         if self.raw:
             return f"unknown({self.raw.hex()})"
         if self.kind == OUTPUT:
-            if self.value == CONTROLLER:
-                return f"CONTROLLER:{self.extra}"
-            return port if self.extra == 0 else f"output(port={port.split(':')[-1]},max_len={self.extra})"
+            return f"CONTROLLER:{self.extra}" if self.value == CONTROLLER else port
         if self.kind == ENQUEUE:
             return f"enqueue:{PORT_NAMES.get(self.value, self.value)}:{self.extra}"
         if self.kind == STRIP_VLAN:

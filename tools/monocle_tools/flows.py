@@ -255,15 +255,11 @@ class FlowLine:
             raise NotUnderstood(f"action `{word}` is unknown")
 
     def output(self, value: str) -> None:
-        """`output:2`, or a port with a length, or a register."""
-        given = re.fullmatch(r"\(port=(\w+),max_len=(\d+)\)", value)
-        if given:
-            self.actions.append(Action(act.OUTPUT, port(given[1]), number(given[2], 0xFFFF)))
-        elif "[" in value:
-            raise Unsayable(f"OpenFlow 1.0 has no action `output:{value}`")
-        else:
-            where = port(value)
-            self.actions.append(Action(act.OUTPUT, where, 0xFFFF if where == act.CONTROLLER else 0))
+        """`output:2`; a register, or a port for which packets are cut, is beyond OpenFlow 1.0."""
+        if "[" in value or value.startswith("("):
+            raise Unsayable(f"OpenFlow 1.0 has no action `output{'' if value.startswith('(') else ':'}{value}`")
+        where = port(value)
+        self.actions.append(Action(act.OUTPUT, where, 0xFFFF if where == act.CONTROLLER else 0))
 
     def enqueue(self, value: str) -> None:
         where, mark, queue = value.strip("()").replace(",", ":").partition(":")
@@ -311,6 +307,25 @@ def read_flow(text: str, unsure: bool) -> Tuple[Optional[Rule], List[str]]:
     if len(act.write_actions(line.actions)) > 512:
         line.reasons.append("has more than the 512 bytes of actions that monocle takes")
     return (None if line.reasons else line.rule()), line.reasons
+
+
+def flow_of(rule: Rule) -> str:
+    """A rule as a flow that ovs-ofctl takes; Unsayable where that would be another rule."""
+    words = rule.words()
+    if rule.unsure:
+        raise Unsayable("it has a timeout, and how long that is a table does not say")
+    try:
+        back, reasons = read_flow(words, False)
+    except NotUnderstood as why:
+        raise Unsayable(str(why)) from None
+    # of an OUTPUT the length bears on the controller alone
+    meant = tuple(one if one.value == act.CONTROLLER or one.kind != act.OUTPUT else one._replace(extra=0)
+                  for one in rule.actions)  # fmt: skip
+    if reasons or back is None:
+        raise Unsayable("; ".join(reasons))
+    if (back.priority, back.match, back.actions) != (rule.priority, rule.match, meant):
+        raise Unsayable(f"`{words}` would be another rule")
+    return words
 
 
 def read_dump(name: str, text: str, unsure: bool) -> Tuple[List[Rule], List[LeftOut]]:

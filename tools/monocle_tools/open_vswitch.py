@@ -11,7 +11,7 @@ import tempfile
 from types import TracebackType
 from typing import Dict, Iterator, List, Optional, Type
 
-PROGRAMS = ("ovsdb-tool", "ovsdb-server", "ovs-vswitchd", "ovs-vsctl", "ovs-ofctl")
+PROGRAMS = ("ovsdb-tool", "ovsdb-server", "ovs-vswitchd", "ovs-vsctl", "ovs-ofctl", "ovs-appctl")
 SCHEMA = "/usr/share/openvswitch/vswitch.ovsschema"
 PATH = os.environ.get("PATH", "") + ":/usr/sbin:/sbin"
 
@@ -93,6 +93,11 @@ class Switch:
 
     def dump(self) -> str:
         return self.run("ovs-ofctl", "-O", "OpenFlow10", "--no-names", "dump-flows", f"unix:{self.bridge}")
+
+    def trace(self, packet: str) -> str:
+        """What the switch says that it would do with a packet."""
+        target = f"--target={self.folder}/ovs-vswitchd.ctl"
+        return self.run("ovs-appctl", target, "ofproto/trace", "s1", packet)
 
     def rules(self) -> List[str]:
         """Its flows as lines of a table file, cut by byte places out of its own statistics of OpenFlow 1.0."""

@@ -1,9 +1,11 @@
 """explain: rules, runs and report lines in words."""
 
 import os
+import unittest
 from typing import List
 
 from common import DEMO, REMADE, Case, content, tool
+from monocle_tools.open_vswitch import Switch, missing
 
 VIEW = """monocle-table 1
 switch 0000000000000001 100
@@ -85,6 +87,31 @@ class Explain(Case):
             "priority=200,ip,nw_dst=10.0.0.5 actions=output:2", "priority=100,ip,nw_dst=10.0.0.0/24 actions=output:2",
             "priority=80,ip,nw_dst=172.16.0.0/12 actions=drop", "priority=80,tcp,tp_dst=80 actions=output:1",
             "priority=50,ip actions=output:1"])  # fmt: skip
+
+    def test_rules_that_are_no_flows(self) -> None:
+        for rule, why in [
+            (f"rule 9 {IPV4} {TO_2} unsure", "it has a timeout, and how long that is a table does not say"),
+            ("rule 9 003020ff" + 28 * "00" + "0a00000500000000 -", "nw_dst says nothing without ip or arp"),
+            (f"rule 9 {IPV4} ffff000800002320", "action `unknown(ffff000800002320)` is unknown"),
+            (f"rule 9 {IPV4} 0001000810050000", "`4101` is above 4095"),
+        ]:
+            with self.subTest(why):
+                name = self.file("table", VIEW.replace("table 1", "table 2") + f"rule 10 {ALL} -\n{rule}\n")
+                ran = tool("explain", "--flows", name)
+                self.assertEqual(ran, (2, "", f"explain: {name}: rule 1 is no flow: {why}\n"))
+        name = self.table([f"rule 9 {IPV4} 000000080002ffff00000008fffdffff"])
+        self.assertEqual(tool("explain", "--flows", name).out, "priority=9,ip actions=output:2,CONTROLLER:65535\n")
+
+    @unittest.skipIf(missing(), "Open vSwitch is not installed")
+    def test_open_vswitch_takes_the_probes_by_their_rules(self) -> None:
+        said = content(DEMO, "five-rules.explained").splitlines()
+        probes = [line.strip() for line in said if line.strip().startswith("tcp,in_port=")]
+        with Switch() as switch:
+            switch.install(tool("explain", "--flows", os.path.join(DEMO, "five-rules.table")).out.splitlines())
+            traces = [switch.trace(probe) for probe in probes]
+        self.assertEqual(len(traces), 2)
+        self.assertIn(" 0. ip,nw_dst=10.0.0.0/24, priority 100\n    output:2\n", traces[0])
+        self.assertIn(" 0. ip, priority 50\n    output:1\n", traces[1])
 
     def test_a_run(self) -> None:
         ran = tool("explain", os.path.join(DEMO, "one-update.output"))
