@@ -4,8 +4,8 @@
 //! since its other literals are false. A clause that is false is a conflict. Then the trail is taken back from its end:
 //! entries that the conflict doesn't mention are dropped, which also jumps back over decisions; at a forced literal the
 //! conflict is resolved with the clause that forced it, which gives a line of the log and the new conflict; at a
-//! decision the conflict forces its opposite. When the trail is empty, the conflict closes the log. So each line has
-//! two hints, and what the log says is what `mon_refute` accepts.
+//! decision the conflict forces its opposite. When the trail is empty, the conflict closes the log. So each line but
+//! the last has two hints, the last has the conflict alone, and what the log says is what `mon_refute` accepts.
 //!
 //! There is no recursion, so the search needs no stack. It ends since each step raises the trail's rank, the number
 //! whose digits in base 3 are its entries, the oldest first: 1 for a decision and 2 for a forced literal. Forced

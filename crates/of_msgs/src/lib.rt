@@ -3,7 +3,8 @@
 //! Each reader takes a frame and gives the fields of its layout, by their byte places (`specs/Layout.antt`,
 //! `specs/FlowMods.antt`), or says that the frame is too short for it. None looks at the frame's type: the caller chose
 //! the reader by it. A FLOW_MOD is read as a function of the bytes (`flow_mod_in` of `specs/ReadMods.antt`), which is all
-//! that a reader can answer while there is memory. Each writer makes a frame that its reader reads back.
+//! that a reader can answer while there is memory. A FLOW_MOD or an ERROR that is written is read back; nothing here reads
+//! a PACKET_OUT.
 //!
 //! A `FlowMod` keeps the message's own bytes of its match and its actions beside what they mean, so that what is passed
 //! on is what came, unused wildcard bits and pads included.
