@@ -2,16 +2,18 @@
 
 from __future__ import annotations
 
+import contextlib
 import os
 import subprocess
 import sys
 import tempfile
 import unittest
-from typing import List, NamedTuple, Optional
+from typing import Iterator, List, NamedTuple, Optional
 
 from monocle_tools.actions import OUTPUT, Action
 from monocle_tools.files import Link, Rule, Table, View
 from monocle_tools.headers import match_of
+from monocle_tools.open_vswitch import Switch
 
 TOP = os.path.dirname(os.path.dirname(os.path.dirname(os.path.abspath(__file__))))
 DATA = os.path.join(TOP, "tools", "data")
@@ -44,6 +46,20 @@ def monocle(*words: str) -> Ran:
     """Runs the built program."""
     done = subprocess.run([PROGRAM, *words], capture_output=True, text=True)
     return Ran(done.returncode, done.stdout, done.stderr)
+
+
+@contextlib.contextmanager
+def running() -> Iterator[Switch]:
+    """An Open vSwitch; the test is skipped where it is installed and does not run."""
+    switch = Switch()
+    try:
+        switch.__enter__()
+    except (RuntimeError, OSError) as why:
+        raise unittest.SkipTest(f"Open vSwitch does not run here: {why}") from None
+    try:
+        yield switch
+    finally:
+        switch.stop()
 
 
 class Case(unittest.TestCase):

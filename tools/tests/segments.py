@@ -50,9 +50,18 @@ def greeting(switch: Side, controller: Side, time: int) -> List[Wire]:
     ]
 
 
-def pcap(packets: Sequence[Wire], order: str = "<", nano: bool = False) -> bytes:
-    """A pcap file of Ethernet packets."""
-    head = struct.pack(f"{order}IHHiIII", 0xA1B23C4D if nano else 0xA1B2C3D4, 2, 4, 0, 0, 65535, 1)
+def ipv6(wire: Wire) -> Wire:
+    """The same segment in an IPv6 packet, behind an option header."""
+    ip = wire.frame[14:]
+    tcp = ip[20 : int.from_bytes(ip[2:4], "big")]
+    ends = b"".join(bytes.fromhex("20010db8") + bytes(8) + ip[at : at + 4] for at in (12, 16))
+    head = struct.pack(">IHBB", 0x60000000, 8 + len(tcp), 0, 64) + ends + b"\6\0" + bytes(6)
+    return Wire(wire.time, wire.frame[:12] + b"\x86\xdd" + head + tcp)
+
+
+def pcap(packets: Sequence[Wire], order: str = "<", nano: bool = False, link: int = 1) -> bytes:
+    """A pcap file of packets of this kind of link, Ethernet at first."""
+    head = struct.pack(f"{order}IHHiIII", 0xA1B23C4D if nano else 0xA1B2C3D4, 2, 4, 0, 0, 65535, link)
     scale = 1000 if nano else 1
     return head + b"".join(
         struct.pack(f"{order}IIII", time // 10**6, time % 10**6 * scale, len(frame), len(frame)) + frame

@@ -4,8 +4,8 @@ import os
 import unittest
 from typing import List
 
-from common import DEMO, REMADE, Case, content, tool
-from monocle_tools.open_vswitch import Switch, missing
+from common import DEMO, REMADE, Case, content, running, tool
+from monocle_tools.open_vswitch import missing
 
 VIEW = """monocle-table 1
 switch 0000000000000001 100
@@ -106,7 +106,7 @@ class Explain(Case):
     def test_open_vswitch_takes_the_probes_by_their_rules(self) -> None:
         said = content(DEMO, "five-rules.explained").splitlines()
         probes = [line.strip() for line in said if line.strip().startswith("tcp,in_port=")]
-        with Switch() as switch:
+        with running() as switch:
             switch.install(tool("explain", "--flows", os.path.join(DEMO, "five-rules.table")).out.splitlines())
             traces = [switch.trace(probe) for probe in probes]
         self.assertEqual(len(traces), 2)

@@ -3,8 +3,8 @@
 import os
 import unittest
 
-from common import DATA, DEMO, PROGRAM, SETTINGS, Case, content, generated, generated_settings, monocle, tool
-from monocle_tools.open_vswitch import Switch, missing
+from common import DATA, DEMO, PROGRAM, SETTINGS, Case, content, generated, generated_settings, monocle, running, tool
+from monocle_tools.open_vswitch import missing
 
 # how switch 1 of the settings is seen: worked out from its two links
 VIEW = """monocle-table 1
@@ -148,12 +148,20 @@ class FlowsToTable(Case):
             tool("flows2table", SETTINGS, "9").said, f"flows2table: {SETTINGS}: has no switch {9:016x}\n"
         )
 
+    def test_a_switch_without_links(self) -> None:
+        settings = os.path.join(DEMO, "settings.json")
+        ran = tool("flows2table", settings, "0x1", text=WORKED[0][0])
+        self.assertEqual(
+            (ran.status, ran.out.splitlines()[1:4]), (0, [f"switch {1:016x} 100", "tags 100", "miss 128"])
+        )
+        self.assertIn("so no rule can be monitored", ran.said)
+
     @unittest.skipIf(missing(), "Open vSwitch is not installed")
     def test_there_and_back_through_open_vswitch(self) -> None:
         small = self.file("generated.table", generated(300, 7).text())
         every = tool("flows2table", SETTINGS, "1", os.path.join(DATA, "every-field.flows")).out
         settings = self.file("settings.json", generated_settings())
-        with Switch() as switch:
+        with running() as switch:
             for table, named in ((os.path.join(DEMO, "five-rules.table"), SETTINGS), (small, settings),
                                  (self.file("every.table", every), SETTINGS)):  # fmt: skip
                 flows = tool("explain", "--flows", table).out.splitlines()

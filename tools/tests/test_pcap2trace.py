@@ -8,7 +8,7 @@ import unittest
 from typing import List
 
 from common import DATA, DEMO, Case, Ran, content, monocle, tool, PROGRAM, SETTINGS
-from segments import ACK, FIN, RST, SYN, Side, Wire, block, greeting, pcap, pcapng
+from segments import ACK, FIN, RST, SYN, Side, Wire, block, greeting, ipv6, pcap, pcapng
 
 HEAD = "monocle-trace 1 0000000000000001\n"
 SECOND = 10**6
@@ -107,6 +107,16 @@ class Pcap2Trace(Case):
             pcap(tagged),
         ):
             self.assertEqual(self.convert([], made=made), wanted)
+
+    def test_kinds_of_links(self) -> None:
+        switch, controller = sides()
+        packets = greeting(switch, controller, SECOND) + [switch.sends(controller, SECOND, b"a")]
+        wanted = (0, f"{HEAD}open\nfrom switch 0 61\n", "")
+        self.assertEqual(self.convert([ipv6(one) for one in packets]), wanted)
+        for link, head in ((113, bytes(14) + b"\x08\0"), (276, b"\x08\0" + bytes(18)), (101, b""), (0, b"\2\0\0\0")):
+            with self.subTest(link):
+                bare = [Wire(time, head + frame[14:]) for time, frame in packets]
+                self.assertEqual(self.convert([], made=pcap(bare, link=link)), wanted)
 
     def test_ports(self) -> None:
         switch, controller = Side("192.0.2.1", 50000, 1), Side("192.0.2.9", 16653, 1)

