@@ -83,7 +83,7 @@ def rule_page(table: Table, explained: Sequence[Explanation]) -> str:
         *legend(explained),
         *rule_map(table, explained),
         "<p class='note'>Rules stand in table order, row by row; a click on a cell opens its rule below. Which of the three a "
-        "rule is, its certificate says, and <code>monocle check</code> proves. Why a rule is not shown was found by "
+        "rule is, its certificate says, which <code>monocle check</code> judges. Why a rule is not shown was found by "
         "looking at some packets: that is an explanation, and no proof.</p>",
         *rule_list(table, explained),
     ]
