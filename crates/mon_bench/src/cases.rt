@@ -1,6 +1,8 @@
 //! How large the clauses of a table's rules are.
 
-use mon_encode::{cases, encode};
+ghost use Rattle.mon_encode.specs.Cases.{IsCaseOf};
+
+use mon_encode::{Case, cases, encode};
 use mon_job::Job;
 use mon_list::OutOfMemory;
 use mon_plan::{generate, job_at};
@@ -37,16 +39,23 @@ const NOTHING: Size = Size {
     clauses: 0,
 };
 
+/// The size of the formula of one case.
+fn of_case(alloc: Global, job: &Job, case: &Case) -> Result<Size, OutOfMemory>
+    requires { IsCaseOf job.now case.now }
+{
+    let formula = encode(alloc, job, case)?;
+    Ok(Size {
+        cases: 1,
+        variables: u64::from(formula.vars()),
+        clauses: formula.clauses().len() as u64,
+    })
+}
+
 /// The size of the formulas of a job's cases.
 fn of_job(alloc: Global, job: &Job) -> Result<Size, OutOfMemory> {
     let mut size = NOTHING;
     for case in cases(alloc, job)?.items() {
-        let formula = encode(alloc, job, case)?;
-        size = size.with(Size {
-            cases: 1,
-            variables: u64::from(formula.vars()),
-            clauses: formula.clauses().len() as u64,
-        });
+        size = size.with(of_case(alloc, job, case)?);
     }
     Ok(size)
 }

@@ -8,6 +8,7 @@
 mod cases;
 mod formulas;
 mod frames;
+mod sample;
 mod separate;
 mod solver;
 mod table;
