@@ -8,7 +8,7 @@ import subprocess
 import sys
 import tempfile
 import unittest
-from typing import Iterator, List, NamedTuple, Optional
+from typing import Callable, Iterator, List, NamedTuple, Optional
 
 from monocle_tools.actions import OUTPUT, Action
 from monocle_tools.files import Link, Rule, Table, View
@@ -22,6 +22,17 @@ PROGRAM = os.path.join(TOP, "crates", "monocle", "out", "monocle")
 # said where a stored output of the demo differs
 REMADE = "where its input was changed on purpose, run tools/make-demo and look at what it writes"
 SETTINGS = os.path.join(DEMO, "three-switches.json")
+
+
+# set by `tools/test --alone`: no other program is asked
+ALONE = "TOOLS_TEST_ALONE"
+
+
+def asks(name: str, is_there: bool) -> Callable[[Callable[..., None]], Callable[..., None]]:
+    """A check that asks another program: made where that one is installed and may be asked."""
+    if os.environ.get(ALONE):
+        return unittest.skip(f"{name} is not asked")
+    return unittest.skipUnless(is_there, f"{name} is not installed")
 
 
 class Ran(NamedTuple):

@@ -1,10 +1,9 @@
 """explain: rules, runs and report lines in words."""
 
 import os
-import unittest
 from typing import List
 
-from common import DEMO, REMADE, Case, content, running, tool
+from common import DEMO, REMADE, Case, asks, content, running, tool
 from monocle_tools.open_vswitch import missing
 
 VIEW = """monocle-table 1
@@ -102,7 +101,7 @@ class Explain(Case):
         name = self.table([f"rule 9 {IPV4} 000000080002ffff00000008fffdffff"])
         self.assertEqual(tool("explain", "--flows", name).out, "priority=9,ip actions=output:2,CONTROLLER:65535\n")
 
-    @unittest.skipIf(missing(), "Open vSwitch is not installed")
+    @asks("Open vSwitch", not missing())
     def test_open_vswitch_takes_the_probes_by_their_rules(self) -> None:
         said = content(DEMO, "five-rules.explained").splitlines()
         probes = [line.strip() for line in said if line.strip().startswith("tcp,in_port=")]

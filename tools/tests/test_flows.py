@@ -3,7 +3,9 @@
 import os
 import unittest
 
-from common import DATA, DEMO, PROGRAM, SETTINGS, Case, content, generated, generated_settings, monocle, running, tool
+from common import (
+    DATA, DEMO, PROGRAM, SETTINGS, Case, asks, content, generated, generated_settings, monocle, running, tool,
+)  # fmt: skip
 from monocle_tools.open_vswitch import missing
 
 # how switch 1 of the settings is seen: worked out from its two links
@@ -156,7 +158,7 @@ class FlowsToTable(Case):
         )
         self.assertIn("so no rule can be monitored", ran.said)
 
-    @unittest.skipIf(missing(), "Open vSwitch is not installed")
+    @asks("Open vSwitch", not missing())
     def test_there_and_back_through_open_vswitch(self) -> None:
         small = self.file("generated.table", generated(300, 7).text())
         every = tool("flows2table", SETTINGS, "1", os.path.join(DATA, "every-field.flows")).out

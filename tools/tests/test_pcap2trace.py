@@ -7,7 +7,7 @@ import subprocess
 import unittest
 from typing import List
 
-from common import DATA, DEMO, Case, Ran, content, monocle, tool, PROGRAM, SETTINGS
+from common import DATA, DEMO, PROGRAM, SETTINGS, Case, Ran, asks, content, monocle, tool
 from segments import ACK, FIN, RST, SYN, Side, Wire, block, greeting, ipv6, pcap, pcapng
 
 HEAD = "monocle-trace 1 0000000000000001\n"
@@ -159,7 +159,7 @@ class Pcap2Trace(Case):
                 self.assertEqual((ran.status, ran.out), (2, ""))
                 self.assertIn(why, ran.said)
 
-    @unittest.skipUnless(shutil.which("tshark"), "tshark is not installed")
+    @asks("tshark", bool(shutil.which("tshark")))
     def test_streams_of_a_real_capture_as_tshark_reads_them(self) -> None:
         name = os.path.join(DATA, "real-switch.pcap")
         command = ["tshark", "-r", name, "-q", "-z", "follow,tcp,raw,0"]

@@ -4,11 +4,10 @@ import os
 import re
 import shutil
 import subprocess
-import unittest
 import xml.etree.ElementTree as tree
 from typing import Dict, List
 
-from common import DEMO, REMADE, SETTINGS, Case, content, generated, tool
+from common import DEMO, REMADE, SETTINGS, Case, asks, content, generated, tool
 
 SVG, HTML = "{http://www.w3.org/2000/svg}", "{http://www.w3.org/1999/xhtml}"
 BROWSER = next((name for name in ("chromium", "chromium-browser", "google-chrome") if shutil.which(name)), "")
@@ -115,7 +114,7 @@ class Picture(Case):
         rules = content(words[0]).count("\nrule ")
         self.assertEqual(len(self.cells(self.page(*words))), rules)
 
-    @unittest.skipUnless(BROWSER, "no browser is installed")
+    @asks("a browser", bool(BROWSER))
     def test_a_browser_draws_each_rule(self) -> None:
         page = os.path.join(self.folder, "page.html")
         words = self.big(700)
