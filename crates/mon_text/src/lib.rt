@@ -4,6 +4,9 @@
 //! nothing of it is copied. Each is a function of the text (`specs/Parts.antt`), and reads what has one spelling:
 //! numbers without leading zeros, lower digits. The definitions join such readers into longer ones, and their proofs
 //! show once for all that what is spelled is read, and that only that is.
+//!
+//! A reader of a whole text answers what it read or a `TextFault`, one for all kinds of texts: the text is bad, or memory ran
+//! out (`specs/Reads.antt`).
 #![tactic(auto)]
 
 mod fault;
