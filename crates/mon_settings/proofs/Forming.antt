@@ -1,18 +1,18 @@
 -- Values of JSON that are read are in their form, and those in their form are read.
-use Rattle.std.proofs.Common.{◌≡◌, ℕ, ◌≤◌, ◌+◌, suc, arith, Bool, true, false, ◌&&◌, nat_le, refl, sym, ap, ◌∙◌, subst, List, [], ◌∷◌, ◌++◌, length, codes}
-use Rattle.std.specs.Prelude.{Option, Some, None, option_and_then, is_none, Result, Ok, Err, IsTrue, if◌then◌else◌, ⊤}
+use Rattle.std.proofs.Common.{◌≡◌, ℕ, ◌≤◌, suc, arith, Bool, true, false, ◌&&◌, nat_le, refl, sym, ap, ◌∙◌, subst, List, [], ◌∷◌, ◌++◌, length, codes}
+use Rattle.std.specs.Prelude.{Option, Some, None, option_and_then, is_none, Result, Ok, if◌then◌else◌}
 use Rattle.std.proofs.lemmas.Bool.{leb-true, le-leb, and_parts, and_from}
 use Rattle.std.proofs.lemmas.List.{append-nil, append_assoc}
-use Rattle.serde_json.specs.Data.{Data, null, boolean, number, unsigned, negative, float, string, array, object, Items, no_items, item, Members, no_members, member}
-use Rattle.serde_json.specs.Find.{get, at, as_str, as_array, as_number, as_u64}
+use Rattle.serde_json.specs.Data.{Data, null, boolean, number, unsigned, negative, float, string, array, object, Items, no_items, item}
+use Rattle.serde_json.specs.Find.{get, as_str, as_array}
 use Rattle.mon_topo.specs.declared.topology.Link.{Link}
 use Rattle.mon_topo.specs.declared.fault.TopoFault.{TopoFault}
 use Rattle.mon_topo.specs.Ascending.{Ascends, next, may_follow}
 use Rattle.mon_topo.specs.Links.{wrong, first_wrong, or_else}
 use Rattle.mon_settings.specs.declared.address.Address.{Address}
 use Rattle.mon_settings.specs.Texts.{datapath_of, address_of}
-use Rattle.mon_settings.specs.Members.{or_bad, and_then, element_path, within, number_in, number_member, address_member}
-use Rattle.mon_settings.specs.Lists.{count, counted, elements, datapath_in, following, next_switch, switches_from, next_tag, tags_from, port_at, datapath_at, link_with, link_parts, four, link_of, sound, next_link, links_from}
+use Rattle.mon_settings.specs.Members.{or_bad, and_then, element_path, number_in, number_member, address_member}
+use Rattle.mon_settings.specs.Lists.{count, counted, elements, datapath_in, following, switches_from, tags_from, link_with, link_parts, link_of, sound, links_from}
 use Rattle.mon_settings.specs.Form.{IsNumber, IsAddress, IsDatapath, IsLink, Each, Has}
 use Rattle.mon_settings.proofs.Stepping.{stepped, step, and_then-same, chosen, choose, given}
 

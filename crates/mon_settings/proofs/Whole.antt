@@ -1,9 +1,8 @@
 -- A value of JSON is read as settings exactly where it is in their form.
-use Rattle.std.proofs.Common.{◌≡◌, ℕ, ◌≤◌, ◌-◌, ◌^◌, Bool, true, false, refl, sym, ap, ◌∙◌, subst, List, [], length, codes}
+use Rattle.std.proofs.Common.{◌≡◌, ℕ, ◌≤◌, Bool, true, false, refl, sym, ap, ◌∙◌, subst, List, [], codes}
 use Rattle.std.specs.Prelude.{Option, Some, None, option_and_then, Result, Ok, Err, IfOk, IfErr, ⊤, if◌then◌else◌}
-use Rattle.std.specs.Str.{IsUtf8}
-use Rattle.serde_json.specs.Data.{Data, null, boolean, number, string, array, object, Items, Members, no_members, member}
-use Rattle.serde_json.specs.Find.{get, as_object}
+use Rattle.serde_json.specs.Data.{Data, null, boolean, number, string, array, object, Members, no_members, member}
+use Rattle.serde_json.specs.Find.{as_object}
 use Rattle.serde_json.specs.Read.{read}
 use Rattle.mon_topo.specs.declared.topology.Link.{Link}
 use Rattle.mon_topo.specs.declared.topology.Topology.{Topology}
@@ -18,11 +17,11 @@ use Rattle.mon_settings.specs.declared.parts.Peers.{Peers}
 use Rattle.mon_settings.specs.declared.parts.Network.{Network}
 use Rattle.mon_settings.specs.declared.parts.Pace.{Pace}
 use Rattle.mon_settings.specs.declared.settings.Settings.{Settings}
-use Rattle.mon_settings.specs.Members.{or_bad, and_then, number_in, number_member, address_member}
-use Rattle.mon_settings.specs.Lists.{count, datapath_in, switches, links, tags, or_too_few, enough}
+use Rattle.mon_settings.specs.Members.{or_bad, number_in, number_member, address_member}
+use Rattle.mon_settings.specs.Lists.{datapath_in, switches, links, tags, or_too_few, enough}
 use Rattle.mon_settings.specs.Names.{is_known, unknown, or_unknown, all_known}
 use Rattle.mon_settings.specs.Judged.{peers, network, pace, settings_with, members_of, if_object, of_value, judged, Holds, Says}
-use Rattle.mon_settings.specs.Form.{IsNumber, IsAddress, IsDatapath, IsLink, Each, Has, HasEach, AreKnown, IsSettings, IsSettingsText, IsRefused}
+use Rattle.mon_settings.specs.Form.{IsNumber, IsAddress, IsDatapath, IsLink, Has, HasEach, AreKnown, IsSettings, IsSettingsText, IsRefused}
 use Rattle.mon_settings.proofs.Stepping.{stepped, step, given}
 use Rattle.mon_settings.proofs.Forming.{number-form, form-number, datapath-form, form-datapath, number_member-form, form-number_member, address_member-form, form-address_member, each-count, each-map, elements-form, form-elements, rising-form, form-rising, switches-rising, tags-rising, links-form, form-links}
 
