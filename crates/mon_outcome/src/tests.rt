@@ -37,7 +37,7 @@ fn makes(rt: &HostRuntime, action: Action, before: Header, after: Header) -> Res
 }
 
 #[test]
-fn actions_change_headers_as_by_hand(rt: HostRuntime) -> Result<(), Fail> {
+fn actions_change_tags_as_by_hand(rt: HostRuntime) -> Result<(), Fail> {
     let h = DATAGRAM;
     let untagged = Header {
         dl_vlan: 0xffff,
@@ -49,47 +49,45 @@ fn actions_change_headers_as_by_hand(rt: HostRuntime) -> Result<(), Fail> {
         dl_vlan_pcp,
         ..h
     };
-    let arp = Header {
-        dl_type: 0x0806,
-        ..h
-    };
-    let icmp = Header { nw_proto: 1, ..h };
-    let tcp = Header { nw_proto: 6, ..h };
     assert!(rt; makes(&rt, Action::SetVlanVid(0xf065), h, tagged(0x65, 3))?);
     assert!(rt; makes(&rt, Action::SetVlanVid(5), untagged, tagged(5, 0))?);
     assert!(rt; makes(&rt, Action::SetVlanPcp(0xfd), h, tagged(100, 5))?);
     assert!(rt; makes(&rt, Action::SetVlanPcp(0xfd), untagged, tagged(0, 5))?);
     assert!(rt; makes(&rt, Action::StripVlan, h, untagged)?);
+    Ok(())
+}
+
+#[test]
+fn actions_change_ipv4_alone(rt: HostRuntime) -> Result<(), Fail> {
+    let h = DATAGRAM;
+    let arp = Header {
+        dl_type: 0x0806,
+        ..h
+    };
+    assert!(rt; makes(&rt, Action::SetNwSrc(9), h, Header { nw_src: 9, ..h })?);
+    assert!(rt; makes(&rt, Action::SetNwDst(9), h, Header { nw_dst: 9, ..h })?);
     assert!(rt; makes(&rt, Action::SetNwTos(0xff), h, Header { nw_tos: 0xfc, ..h })?);
-    assert!(rt;
-        makes(
-            &rt,
-            Action::SetNwSrc(0x0a000009),
-            h,
-            Header {
-                nw_src: 0x0a000009,
-                ..h
-            }
-        )?
-    );
-    assert!(rt;
-        makes(
-            &rt,
-            Action::SetNwDst(0x0a000009),
-            h,
-            Header {
-                nw_dst: 0x0a000009,
-                ..h
-            }
-        )?
-    );
-    assert!(rt; makes(&rt, Action::SetNwSrc(7), arp, arp)?);
+    assert!(rt; makes(&rt, Action::SetNwSrc(9), arp, arp)?);
     assert!(rt; makes(&rt, Action::SetNwTos(8), arp, arp)?);
-    assert!(rt; makes(&rt, Action::SetTpDst(7), icmp, icmp)?);
-    assert!(rt; makes(&rt, Action::SetTpSrc(7), h, Header { tp_src: 7, ..h })?);
-    assert!(rt; makes(&rt, Action::SetTpDst(7), h, Header { tp_dst: 7, ..h })?);
-    assert!(rt; makes(&rt, Action::SetTpSrc(7), tcp, Header { tp_src: 7, ..tcp })?);
-    assert!(rt; makes(&rt, Action::SetTpDst(7), tcp, Header { tp_dst: 7, ..tcp })?);
+    Ok(())
+}
+
+/// Whether the actions on ports make these ports of a packet of this protocol.
+fn makes_ports(rt: &HostRuntime, nw_proto: u8, tp_src: u16, tp_dst: u16) -> Result<bool, Fail> {
+    let h = Header {
+        nw_proto,
+        ..DATAGRAM
+    };
+    let from = makes(rt, Action::SetTpSrc(7), h, Header { tp_src, ..h })?;
+    let to = makes(rt, Action::SetTpDst(8), h, Header { tp_dst, ..h })?;
+    Ok(from && to)
+}
+
+#[test]
+fn actions_change_ports_of_tcp_and_udp_alone(rt: HostRuntime) -> Result<(), Fail> {
+    assert!(rt; makes_ports(&rt, 6, 7, 8)?);
+    assert!(rt; makes_ports(&rt, 17, 7, 8)?);
+    assert!(rt; makes_ports(&rt, 1, 1, 2)?);
     Ok(())
 }
 
