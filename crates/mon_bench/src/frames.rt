@@ -1,6 +1,6 @@
 //! Probe frames for another program to read: a line for each, with the fields of its header and then its bytes.
 
-use mon_header::Header;
+use mon_header::{BLANK, Header};
 use mon_packet::{Nonce, in_class, render};
 use std::alloc::Global;
 
@@ -41,14 +41,13 @@ fn headers() -> [Header; 6] {
             ..DATAGRAM
         },
         Header {
+            in_port: 1,
+            dl_src: 0x020000000001,
+            dl_dst: 0x0200000000a2,
+            dl_vlan: 100,
+            dl_vlan_pcp: 5,
             dl_type: 0x88b5,
-            nw_tos: 0,
-            nw_proto: 0,
-            nw_src: 0,
-            nw_dst: 0,
-            tp_src: 0,
-            tp_dst: 0,
-            ..DATAGRAM
+            ..BLANK
         },
         Header {
             dl_vlan: 0xffff,

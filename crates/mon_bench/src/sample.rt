@@ -1,12 +1,10 @@
-//! The rules, the packets and the view that are measured.
+//! The rules and the packets that are measured.
 
 ghost use Rattle.std.specs.Prelude.{◌<◌, ◌^◌};
 
-use mon_header::{Action, Actions, Header, Match, OutOfMemory};
-use mon_list::Items;
-use mon_shows::{Near, View};
+use mon_header::{Header, Match, OutOfMemory};
+use mon_samples::{PACKET, sending};
 use mon_table::Rule;
-use mon_topo::Vids;
 use std::alloc::Global;
 use std::rt::Clock;
 use std::time::Instant;
@@ -30,18 +28,8 @@ pub fn packet(number: u16) -> Header
     ensures { (result.dl_src < 2 ^ 48) × (result.dl_dst < 2 ^ 48) }
 {
     Header {
-        in_port: 1,
-        dl_src: 0x020000000001,
-        dl_dst: 0x020000000002,
-        dl_vlan: 100,
-        dl_vlan_pcp: 0,
-        dl_type: 0x0800,
-        nw_tos: 0,
-        nw_proto: 17,
-        nw_src: 0,
         nw_dst: 0x0a000000 + u32::from(number),
-        tp_src: 0,
-        tp_dst: 0,
+        ..PACKET
     }
 }
 
@@ -52,43 +40,7 @@ pub fn address(number: u16) -> Match {
 
 /// The rule that sends IPv4 to the one address of a number out at port 2.
 pub fn rule(alloc: Global, number: u16, priority: u16) -> Result<Rule, OutOfMemory> {
-    let mut actions = Actions::new(alloc);
-    actions.push(Action::Output {
-        port: 2,
-        max_len: 0,
-    })?;
-    Ok(Rule {
-        matching: address(number),
-        priority,
-        actions,
-    })
-}
-
-/// The switch 1 with the tag 100, between two neighbours of the tag 101.
-pub fn view(alloc: Global) -> Result<View, OutOfMemory> {
-    let mut tags = Vids::new(alloc);
-    tags.push(100)?;
-    tags.push(101)?;
-    let mut links = Items::new(alloc);
-    links.push(Near {
-        port: 1,
-        switch: 2,
-        far_port: 1,
-        tag: 101,
-    })?;
-    links.push(Near {
-        port: 2,
-        switch: 3,
-        far_port: 1,
-        tag: 101,
-    })?;
-    Ok(View {
-        switch: 1,
-        tag: 100,
-        tags,
-        links,
-        miss: 128,
-    })
+    sending(alloc, address(number), priority, &[2])
 }
 
 /// The nanoseconds since a start, for each of some calls.

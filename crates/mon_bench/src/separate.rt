@@ -2,10 +2,11 @@
 
 ghost use Rattle.std.specs.Prelude.{◌<◌};
 
-use crate::sample::{each, packet, rule, shuffled, view};
+use crate::sample::{each, packet, rule, shuffled};
 use mon_header::OutOfMemory;
 use mon_outcome::Emission;
 use mon_packet::{Nonce, in_class, parse, render};
+use mon_samples::two_neighbours;
 use mon_shows::{Target, View, separates};
 use mon_table::Table;
 use std::alloc::Global;
@@ -45,7 +46,7 @@ fn separation(rt: &(impl Clock + Print), alloc: Global, size: u16) -> anyhow::Re
     requires { 0 < size }
 {
     let table = table(alloc, size)?;
-    let view = view(alloc)?;
+    let view = two_neighbours(alloc)?;
     let mut seen: u32 = 0;
     let mut passed: u64 = 0;
     for turn in 0..512_u16 {

@@ -30,8 +30,6 @@ mod encoding;
 mod hidden;
 mod listing;
 mod showing;
-#[cfg(test)]
-mod tests;
 mod winning;
 
 pub use case::{Case, Cases};

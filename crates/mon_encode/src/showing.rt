@@ -5,7 +5,7 @@ ghost use Rattle.mon_encode.specs.Cases.{HasWinner, winner_at, shape_of, given};
 ghost use Rattle.mon_encode.specs.Formulas.{tagged, is_known, comes_back};
 
 use crate::case::Case;
-use mon_header::Header;
+use mon_header::{BLANK, Header};
 use mon_job::Job;
 use mon_list::OutOfMemory;
 use mon_outcome::{Door, Emission, Shape, any_unknown, rewrites};
@@ -48,18 +48,8 @@ fn tagged(tag: u16) -> Header
     ensures { result ≡ tagged tag }
 {
     Header {
-        in_port: 0,
-        dl_src: 0,
-        dl_dst: 0,
         dl_vlan: tag,
-        dl_vlan_pcp: 0,
-        dl_type: 0,
-        nw_tos: 0,
-        nw_proto: 0,
-        nw_src: 0,
-        nw_dst: 0,
-        tp_src: 0,
-        tp_dst: 0,
+        ..BLANK
     }
 }
 

@@ -17,3 +17,19 @@ pub struct Header {
     pub tp_src: u16,
     pub tp_dst: u16,
 }
+
+/// A header of zeros, from which others are made. It is in no class, since no frame has the Ethernet type 0.
+pub const BLANK: Header = Header {
+    in_port: 0,
+    dl_src: 0,
+    dl_dst: 0,
+    dl_vlan: 0,
+    dl_vlan_pcp: 0,
+    dl_type: 0,
+    nw_tos: 0,
+    nw_proto: 0,
+    nw_src: 0,
+    nw_dst: 0,
+    tp_src: 0,
+    tp_dst: 0,
+};

@@ -5,32 +5,11 @@ ghost use Rattle.std.specs.Prelude.{◌≡◌};
 use crate::action::{Action, RawAction, same_action};
 use crate::actions::{Actions, same_actions};
 use crate::class::{Class, in_class, is_in_class};
-use crate::header::Header;
+use crate::header::{BLANK, Header};
 use crate::matching::{Match, covers, effective, matches, overlaps};
 use crate::order::{match_before, same_header, same_match};
 use crate::places::{bit, from_bits};
 use std::test::Fail;
-
-/// A header of zeros.
-fn blank() -> Header
-    ensures src { result.dl_src ≡ 0 }
-    ensures dst { result.dl_dst ≡ 0 }
-{
-    Header {
-        in_port: 0,
-        dl_src: 0,
-        dl_dst: 0,
-        dl_vlan: 0,
-        dl_vlan_pcp: 0,
-        dl_type: 0,
-        nw_tos: 0,
-        nw_proto: 0,
-        nw_src: 0,
-        nw_dst: 0,
-        tp_src: 0,
-        tp_dst: 0,
-    }
-}
 
 /// A datagram from 10.0.0.1 to 10.0.0.2 on port 1, with the tag 100.
 fn datagram() -> Header
@@ -42,14 +21,13 @@ fn datagram() -> Header
         dl_src: 0x020000000001,
         dl_dst: 0x020000000002,
         dl_vlan: 100,
-        dl_vlan_pcp: 0,
         dl_type: 0x0800,
-        nw_tos: 0,
         nw_proto: 17,
         nw_src: 0x0a000001,
         nw_dst: 0x0a000002,
         tp_src: 1,
         tp_dst: 2,
+        ..BLANK
     }
 }
 
@@ -61,7 +39,7 @@ fn ipv4(wildcards: u32, nw_src: u32, nw_dst: u32) -> Match {
             dl_type: 0x0800,
             nw_src,
             nw_dst,
-            ..blank()
+            ..BLANK
         },
     )
 }
@@ -73,7 +51,7 @@ fn on_port(wildcards: u32, in_port: u16, dl_type: u16) -> Match {
         Header {
             in_port,
             dl_type,
-            ..blank()
+            ..BLANK
         },
     )
 }
@@ -179,7 +157,7 @@ fn headers_are_in_their_classes(rt: HostRuntime) {
         dl_src: 1,
         dl_vlan: 0xffff,
         dl_type: 0x88b5,
-        ..blank()
+        ..BLANK
     };
     let cases = [
         (udp, Some(Class::Udp)),

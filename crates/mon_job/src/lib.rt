@@ -11,8 +11,6 @@
 
 mod job;
 pub mod laws;
-#[cfg(test)]
-mod tests;
 mod verdict;
 
 pub use job::Job;

@@ -19,8 +19,6 @@ mod differing;
 pub mod laws;
 mod matching;
 mod run;
-#[cfg(test)]
-mod tests;
 
 pub use bearing::borne;
 pub use classes::push_class;

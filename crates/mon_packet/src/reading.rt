@@ -7,7 +7,7 @@ use crate::ethernet::{Ethernet, ethernet_of};
 use crate::nonce::{Nonce, nonce_of};
 use crate::transport::{Transport, transport_of};
 use mon_fields::{u16_at, u32_at};
-use mon_header::Header;
+use mon_header::{BLANK, Header};
 
 /// Whether this is a packet of IPv4 without options, whole and in one fragment.
 #[tactic(auto, unfolding(crate::specs::Reading::is_ipv4))]
@@ -27,18 +27,12 @@ fn plain_header(e: Ethernet) -> Header
     ensures { result ≡ plain_header e }
 {
     Header {
-        in_port: 0,
         dl_src: e.dl_src,
         dl_dst: e.dl_dst,
         dl_vlan: e.dl_vlan,
         dl_vlan_pcp: e.dl_vlan_pcp,
         dl_type: e.dl_type,
-        nw_tos: 0,
-        nw_proto: 0,
-        nw_src: 0,
-        nw_dst: 0,
-        tp_src: 0,
-        tp_dst: 0,
+        ..BLANK
     }
 }
 

@@ -3,24 +3,17 @@
 use crate::nonce::Nonce;
 use crate::reading::parse;
 use crate::writing::render;
-use mon_header::{Header, in_class, same_header};
+use mon_header::{BLANK, Header, in_class, same_header};
 use std::alloc::Global;
 use std::test::Fail;
 
 /// A frame without IPv4, with the tag 100.
 const PLAIN: Header = Header {
-    in_port: 0,
     dl_src: 0x020000000001,
     dl_dst: 0x020000000002,
     dl_vlan: 100,
-    dl_vlan_pcp: 0,
     dl_type: 0x88b5,
-    nw_tos: 0,
-    nw_proto: 0,
-    nw_src: 0,
-    nw_dst: 0,
-    tp_src: 0,
-    tp_dst: 0,
+    ..BLANK
 };
 
 /// A datagram from 10.0.0.1 to 10.0.0.2 with the tag 100, on port 1.

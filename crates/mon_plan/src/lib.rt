@@ -17,8 +17,6 @@ mod job;
 pub mod laws;
 mod plan;
 mod summary;
-#[cfg(test)]
-mod tests;
 
 pub use check::{Checked, check_table};
 pub use job::job_at;

@@ -1,7 +1,7 @@
 //! Frames held back and let go, and edits that may pass others.
 
 use crate::{Queue, apart};
-use mon_header::{Header, Match, Matches};
+use mon_header::{BLANK, Header, Match, Matches};
 use of_frame::Frame;
 use std::test::Fail;
 
@@ -33,18 +33,10 @@ fn between(source: (u32, u32), destination: (u32, u32)) -> Match {
     let (nw_dst, dst_ignored) = destination;
     let wildcards = 0x0030_00ef | (src_ignored & 63) << 8 | (dst_ignored & 63) << 14;
     let fields = Header {
-        in_port: 0,
-        dl_src: 0,
-        dl_dst: 0,
-        dl_vlan: 0,
-        dl_vlan_pcp: 0,
         dl_type: 0x0800,
-        nw_tos: 0,
-        nw_proto: 0,
         nw_src,
         nw_dst,
-        tp_src: 0,
-        tp_dst: 0,
+        ..BLANK
     };
     Match::normal(wildcards, fields)
 }

@@ -18,8 +18,6 @@ mod seen;
 mod separate;
 mod sight;
 mod target;
-#[cfg(test)]
-mod tests;
 mod undone;
 mod view;
 

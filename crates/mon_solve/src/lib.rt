@@ -14,8 +14,6 @@ mod certify;
 mod deciding;
 mod found;
 mod stop;
-#[cfg(test)]
-mod tests;
 
 pub use certify::{accept, certificate};
 pub use deciding::decide;

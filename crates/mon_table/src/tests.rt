@@ -3,25 +3,9 @@
 use crate::edit::Edit;
 use crate::rule::Rule;
 use crate::table::Table;
-use mon_header::{Action, Actions, Header, Match, OutOfMemory};
+use mon_header::{Action, Actions, BLANK, Header, Match, OutOfMemory};
 use std::alloc::Global;
 use std::test::Fail;
-
-/// A header of zeros.
-const BLANK: Header = Header {
-    in_port: 0,
-    dl_src: 0,
-    dl_dst: 0,
-    dl_vlan: 0,
-    dl_vlan_pcp: 0,
-    dl_type: 0,
-    nw_tos: 0,
-    nw_proto: 0,
-    nw_src: 0,
-    nw_dst: 0,
-    tp_src: 0,
-    tp_dst: 0,
-};
 
 /// A UDP packet from 10.0.0.1 to 10.0.0.2 on port 1.
 const PACKET: Header = Header {
@@ -29,14 +13,13 @@ const PACKET: Header = Header {
     dl_src: 0x020000000001,
     dl_dst: 0x020000000002,
     dl_vlan: 100,
-    dl_vlan_pcp: 0,
     dl_type: 0x0800,
-    nw_tos: 0,
     nw_proto: 17,
     nw_src: 0x0a000001,
     nw_dst: 0x0a000002,
     tp_src: 1,
     tp_dst: 2,
+    ..BLANK
 };
 
 fn exact() -> Match {

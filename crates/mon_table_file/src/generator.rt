@@ -7,7 +7,7 @@ ghost use Rattle.mon_topo.specs.Ascending.{AreVids};
 ghost use Rattle.mon_shows.specs.Links.{PortsAscend};
 ghost use Rattle.mon_table_file.specs.Generator.{link_at, generated_view, number_of, ignored_bits, is_for_udp, wild_of, fields_of, output_to, actions_for, priority_of, rule_from, generated};
 
-use mon_header::{Action, Actions, Header, Match};
+use mon_header::{Action, Actions, BLANK, Header, Match};
 use mon_list::{Items, OutOfMemory};
 use mon_shows::{Near, Nears, View};
 use mon_table::{Rule, Table};
@@ -107,18 +107,10 @@ fn fields_of(k: u32) -> Header
 {
     let nw_proto = if is_for_udp(k) { 17 } else { 0 };
     Header {
-        in_port: 0,
-        dl_src: 0,
-        dl_dst: 0,
-        dl_vlan: 0,
-        dl_vlan_pcp: 0,
         dl_type: 0x0800,
-        nw_tos: 0,
         nw_proto,
-        nw_src: 0,
         nw_dst: 0x0a00_0000 + 256 * k,
-        tp_src: 0,
-        tp_dst: 0,
+        ..BLANK
     }
 }
 

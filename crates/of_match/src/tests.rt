@@ -1,7 +1,7 @@
 //! Matches whose bytes were written by hand.
 
 use crate::codec::{read_match, write_match};
-use mon_header::{Header, same_header};
+use mon_header::{BLANK, Header, same_header};
 
 /// The bytes of hexadecimal digits; what is no digit is skipped.
 fn bytes(text: &str) -> [u8; 40] {
@@ -14,24 +14,6 @@ fn bytes(text: &str) -> [u8; 40] {
         }
     }
     out
-}
-
-/// A header of zeros.
-fn blank() -> Header {
-    Header {
-        in_port: 0,
-        dl_src: 0,
-        dl_dst: 0,
-        dl_vlan: 0,
-        dl_vlan_pcp: 0,
-        dl_type: 0,
-        nw_tos: 0,
-        nw_proto: 0,
-        nw_src: 0,
-        nw_dst: 0,
-        tp_src: 0,
-        tp_dst: 0,
-    }
 }
 
 #[test]
@@ -98,7 +80,7 @@ fn what_says_nothing_is_dropped(rt: HostRuntime) {
         dl_type: 0x0800,
         nw_tos: 0xfc,
         nw_dst: 0x0a0b0000,
-        ..blank()
+        ..BLANK
     };
     assert!(rt; m.wildcards() == 0x000320ef && same_header(m.fields(), &fields));
     assert!(rt; write_match(&m) == bytes(normal));

@@ -1,74 +1,16 @@
-//! Views and tables that were worked out by hand.
+//! Views, and packets that tell two tables apart.
 
-ghost use Rattle.std.specs.Prelude.{◌<◌, ◌^◌};
-
-use crate::near::Near;
-use crate::seen::Seen;
-use crate::separate::separates;
-use crate::sight::{caught, craftable, observed};
-use crate::target::Target;
-use crate::view::View;
-use mon_header::{Action, Actions, Header, Match, OutOfMemory};
-use mon_list::Items;
+use crate::{IPV4, PACKET, ipv4, neighbours, sending, wide, with_neighbours};
+use mon_header::{BLANK, Header, Match, OutOfMemory};
 use mon_outcome::Emission;
+use mon_shows::{Seen, Target, View, caught, craftable, observed, separates};
 use mon_table::{Rule, Table};
-use mon_topo::Vids;
 use std::alloc::Global;
 use std::test::Fail;
 
-/// A header of zeros.
-const BLANK: Header = Header {
-    in_port: 0,
-    dl_src: 0,
-    dl_dst: 0,
-    dl_vlan: 0,
-    dl_vlan_pcp: 0,
-    dl_type: 0,
-    nw_tos: 0,
-    nw_proto: 0,
-    nw_src: 0,
-    nw_dst: 0,
-    tp_src: 0,
-    tp_dst: 0,
-};
-
-/// A datagram from 0.0.0.0 to 10.0.0.1 that comes in at port 1 with the tag 100.
-const PACKET: Header = Header {
-    in_port: 1,
-    dl_src: 0x020000000001,
-    dl_dst: 0x020000000002,
-    dl_vlan: 100,
-    dl_type: 0x0800,
-    nw_proto: 17,
-    nw_dst: 0x0a000001,
-    ..BLANK
-};
-
-/// The switch 1 with the tag 100, between the switches 2 at its port 1 and 3 at its port 2. Both have the tag 101.
+/// The switch 1 between its neighbours, which sends so many bytes of what it misses.
 fn view(alloc: Global, miss: u16) -> Result<View, OutOfMemory> {
-    let mut tags = Vids::new(alloc);
-    tags.push(100)?;
-    tags.push(101)?;
-    let mut links = Items::new(alloc);
-    links.push(Near {
-        port: 1,
-        switch: 2,
-        far_port: 1,
-        tag: 101,
-    })?;
-    links.push(Near {
-        port: 2,
-        switch: 3,
-        far_port: 1,
-        tag: 101,
-    })?;
-    Ok(View {
-        switch: 1,
-        tag: 100,
-        tags,
-        links,
-        miss,
-    })
+    with_neighbours(alloc, neighbours(alloc)?, miss)
 }
 
 #[test]
@@ -134,56 +76,13 @@ fn views_show_what_was_worked_out(rt: HostRuntime) -> Result<(), Fail> {
     Ok(())
 }
 
-/// A rule that outputs to these ports.
-fn outputs(
-    alloc: Global,
-    wildcards: u32,
-    fields: Header,
-    priority: u16,
-    ports: &[u16],
-) -> Result<Rule, OutOfMemory>
-    requires src { fields.dl_src < 2 ^ 48 }
-    requires dst { fields.dl_dst < 2 ^ 48 }
-{
-    let mut actions = Actions::new(alloc);
-    for port in ports {
-        actions.push(Action::Output {
-            port: *port,
-            max_len: 0xffff,
-        })?;
-    }
-    Ok(Rule {
-        matching: Match::normal(wildcards, fields),
-        priority,
-        actions,
-    })
-}
-
 /// A rule for IPv4 to 10.0.0.0/24 of the priority 100.
 fn to_24(alloc: Global, ports: &[u16]) -> Result<Rule, OutOfMemory> {
     let fields = Header {
-        dl_type: 0x0800,
         nw_dst: 0x0a000000,
-        ..BLANK
+        ..IPV4
     };
-    outputs(alloc, 0x003220ef, fields, 100, ports)
-}
-
-/// A rule for IPv4 from and to these addresses, which outputs to port 2.
-fn ipv4(
-    alloc: Global,
-    wildcards: u32,
-    nw_src: u32,
-    nw_dst: u32,
-    priority: u16,
-) -> Result<Rule, OutOfMemory> {
-    let fields = Header {
-        dl_type: 0x0800,
-        nw_src,
-        nw_dst,
-        ..BLANK
-    };
-    outputs(alloc, wildcards, fields, priority, &[2])
+    sending(alloc, Match::normal(0x003220ef, fields), 100, ports)
 }
 
 /// The rule that catches the probes of the neighbours, and the one that drops what is marked.
@@ -197,8 +96,8 @@ fn catching(alloc: Global) -> Result<Table, OutOfMemory> {
         dl_dst: 0x024d4f4e4f00,
         ..BLANK
     };
-    let _ = table.put(outputs(alloc, 0x003820fd, tagged, 65535, &[0xfffd])?)?;
-    let _ = table.put(outputs(alloc, 0x003820f7, marked, 65534, &[])?)?;
+    let _ = table.put(sending(alloc, Match::normal(0x003820fd, tagged), 65535, &[0xfffd])?)?;
+    let _ = table.put(sending(alloc, Match::normal(0x003820f7, marked), 65534, &[])?)?;
     Ok(table)
 }
 
@@ -250,7 +149,7 @@ fn table_after(alloc: Global, update: Update, lower: bool) -> Result<Table, OutO
         let _ = table.put(rule_of(alloc, update)?)?;
     }
     if lower {
-        let _ = table.put(ipv4(alloc, 0x003820ef, 0, 0, 50)?)?;
+        let _ = table.put(wide(alloc)?)?;
     }
     Ok(table)
 }

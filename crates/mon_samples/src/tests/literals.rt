@@ -1,45 +1,13 @@
-//! Headers, matches and rewrites whose literals were worked out by hand.
+//! Headers, matches and rewrites as literals.
 
-use crate::bearing::borne;
-use crate::classes::push_class;
-use crate::differing::differ;
-use crate::matching::pattern;
+use crate::{IPV4, PACKET, two_neighbours};
 use mon_cnf::{Formula, Lit, OutOfMemory, holds};
 use mon_header::{Class, HEADER_BITS, Header, Match, bit, same_header};
-use mon_list::Items;
+use mon_literals::{borne, differ, pattern, push_class};
 use mon_outcome::Rewrite;
-use mon_shows::{Near, View};
-use mon_topo::Vids;
+use mon_shows::View;
 use std::alloc::Global;
 use std::test::Fail;
-
-/// A header of zeros.
-const BLANK: Header = Header {
-    in_port: 0,
-    dl_src: 0,
-    dl_dst: 0,
-    dl_vlan: 0,
-    dl_vlan_pcp: 0,
-    dl_type: 0,
-    nw_tos: 0,
-    nw_proto: 0,
-    nw_src: 0,
-    nw_dst: 0,
-    tp_src: 0,
-    tp_dst: 0,
-};
-
-/// A datagram from 0.0.0.0 to 10.0.0.1 that comes in at port 1 with the tag 100.
-const PACKET: Header = Header {
-    in_port: 1,
-    dl_src: 0x020000000001,
-    dl_dst: 0x020000000002,
-    dl_vlan: 100,
-    dl_type: 0x0800,
-    nw_proto: 17,
-    nw_dst: 0x0a000001,
-    ..BLANK
-};
 
 /// A frame of the local experimental type.
 const FRAME: Header = Header {
@@ -65,24 +33,6 @@ const COPY: Rewrite = Rewrite {
     tp_dst: None,
 };
 
-/// The switch 1 with the tag 100 and the switch 2 at its port 1.
-fn view(alloc: Global) -> Result<View, OutOfMemory> {
-    let mut links = Items::new(alloc);
-    links.push(Near {
-        port: 1,
-        switch: 2,
-        far_port: 1,
-        tag: 101,
-    })?;
-    Ok(View {
-        switch: 1,
-        tag: 100,
-        tags: Vids::new(alloc),
-        links,
-        miss: 128,
-    })
-}
-
 fn bits(h: &Header) -> [bool; HEADER_BITS as usize] {
     let mut bits = [false; HEADER_BITS as usize];
     for place in 0..HEADER_BITS {
@@ -97,9 +47,8 @@ fn a_match_is_the_bits_that_it_compares(rt: HostRuntime) -> Result<(), Fail> {
     let m = Match::normal(
         0x003220ef,
         Header {
-            dl_type: 0x0800,
             nw_dst: 0x0a000000,
-            ..BLANK
+            ..IPV4
         },
     );
     let set = [140, 204, 206];
@@ -125,7 +74,7 @@ fn is_asked(alloc: Global, view: &View, class: Class, h: &Header) -> Result<bool
 
 #[test]
 fn classes_have_headers_of_probes(rt: HostRuntime) -> Result<(), Fail> {
-    let view = view(rt.alloc())?;
+    let view = two_neighbours(rt.alloc())?;
     let ipv4 = |nw_proto| Header { nw_proto, ..PACKET };
     let to = |dl_dst| Header { dl_dst, ..PACKET };
     let frame = |dl_type| Header { dl_type, ..FRAME };

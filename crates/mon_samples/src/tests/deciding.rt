@@ -1,96 +1,17 @@
-//! Rules that are watched in tables that were worked out by hand.
+//! Rules that are watched, decided and certified.
 
 ghost use Rattle.std.specs.Prelude.{◌≡◌, ◌<◌, ◌^◌, ◌+◌, Some, None, IfOk, length};
 ghost use Rattle.std.specs.Arc.{arc_value};
 
-use crate::{Certificate, Never, Stop, accept, certificate, decide};
-use mon_header::{Action, Actions, Header, Match, OutOfMemory};
+use crate::{ipv4, narrow, two_neighbours, wide};
+use mon_header::OutOfMemory;
 use mon_job::{Job, Says};
-use mon_list::Items;
-use mon_shows::{Near, Target, View};
+use mon_shows::Target;
+use mon_solve::{Certificate, Never, Stop, accept, certificate, decide};
 use mon_table::{Rule, Table};
-use mon_topo::Vids;
 use std::alloc::Global;
 use std::sync::Arc;
 use std::test::Fail;
-
-/// A header of zeros that is IPv4 by its Ethernet type.
-const IPV4: Header = Header {
-    in_port: 0,
-    dl_src: 0,
-    dl_dst: 0,
-    dl_vlan: 0,
-    dl_vlan_pcp: 0,
-    dl_type: 0x0800,
-    nw_tos: 0,
-    nw_proto: 0,
-    nw_src: 0,
-    nw_dst: 0,
-    tp_src: 0,
-    tp_dst: 0,
-};
-
-/// The switch 1 with the tag 100, between the switches 2 at its port 1 and 3 at its port 2. Both have the tag 101.
-fn view(alloc: Global) -> Result<View, OutOfMemory> {
-    let mut tags = Vids::new(alloc);
-    tags.push(100)?;
-    tags.push(101)?;
-    let mut links = Items::new(alloc);
-    links.push(Near {
-        port: 1,
-        switch: 2,
-        far_port: 1,
-        tag: 101,
-    })?;
-    links.push(Near {
-        port: 2,
-        switch: 3,
-        far_port: 1,
-        tag: 101,
-    })?;
-    Ok(View {
-        switch: 1,
-        tag: 100,
-        tags,
-        links,
-        miss: 128,
-    })
-}
-
-/// A rule for IPv4 packets from and to these addresses that sends them to port 2.
-fn rule(
-    alloc: Global,
-    wildcards: u32,
-    nw_src: u32,
-    nw_dst: u32,
-    priority: u16,
-) -> Result<Rule, OutOfMemory> {
-    let mut actions = Actions::new(alloc);
-    actions.push(Action::Output {
-        port: 2,
-        max_len: 0xffff,
-    })?;
-    let header = Header {
-        nw_src,
-        nw_dst,
-        ..IPV4
-    };
-    Ok(Rule {
-        matching: Match::normal(wildcards, header),
-        priority,
-        actions,
-    })
-}
-
-/// To 10.0.0.0/24, at priority 100.
-fn narrow(alloc: Global) -> Result<Rule, OutOfMemory> {
-    rule(alloc, 0x003220ef, 0, 0x0a000000, 100)
-}
-
-/// All IPv4, at priority 50.
-fn wide(alloc: Global) -> Result<Rule, OutOfMemory> {
-    rule(alloc, 0x003820ef, 0, 0, 50)
-}
 
 /// The job that watches a rule beside another one, at the version 7.
 fn watch(alloc: Global, watched: Rule, other: Rule) -> Result<Job, OutOfMemory>
@@ -105,7 +26,7 @@ fn watch(alloc: Global, watched: Rule, other: Rule) -> Result<Job, OutOfMemory>
         slot: 0,
         edit: 0,
         version: 7,
-        view: view(alloc)?,
+        view: two_neighbours(alloc)?,
         table,
         target: Target::Watch { rule: watched },
     })
@@ -127,8 +48,8 @@ fn unseen(alloc: Global) -> Result<Job, OutOfMemory>
 
 /// The job of a rule from 10.0.0.0/8 that overlaps one to 10.0.0.0/8 of its priority.
 fn tied(alloc: Global) -> Result<Job, OutOfMemory> {
-    let from = rule(alloc, 0x003818ef, 0x0a000000, 0, 100)?;
-    let to = rule(alloc, 0x003620ef, 0, 0x0a000000, 100)?;
+    let from = ipv4(alloc, 0x003818ef, 0x0a000000, 0, 100)?;
+    let to = ipv4(alloc, 0x003620ef, 0, 0x0a000000, 100)?;
     watch(alloc, from, to)
 }
 

@@ -1,103 +1,41 @@
-//! Small jobs whose cases were worked out by hand.
+//! Small jobs, their cases and clauses.
 
 ghost use Rattle.mon_job.specs.Jobs.{IsJob};
 ghost use Rattle.mon_encode.specs.Cases.{IsCaseOf};
 
-use super::*;
+use crate::{IPV4, sending, two_neighbours};
 use mon_cnf::holds;
-use mon_header::{Action, Actions, Header, Match, same_header};
+use mon_encode::{Case, cases, decode_model, encode, encode_header};
+use mon_header::{Class, Header, Match, OutOfMemory, same_header};
 use mon_job::Job;
-use mon_list::Items;
 use mon_literals::borne;
-use mon_outcome::{Class, Emission};
+use mon_outcome::Emission;
 use mon_plain::{Outcome, solve_plain};
-use mon_shows::{Near, Target, View, separates};
+use mon_shows::{Target, separates};
 use mon_table::{Rule, Table};
-use mon_topo::Vids;
 use std::alloc::Global;
 use std::test::Fail;
 
-/// A header of zeros.
-const BLANK: Header = Header {
-    in_port: 0,
-    dl_src: 0,
-    dl_dst: 0,
-    dl_vlan: 0,
-    dl_vlan_pcp: 0,
-    dl_type: 0,
-    nw_tos: 0,
-    nw_proto: 0,
-    nw_src: 0,
-    nw_dst: 0,
-    tp_src: 0,
-    tp_dst: 0,
-};
-
 /// The fields of a match on IPv4 packets to 10.0.0.5.
 const TO_5: Header = Header {
-    dl_type: 0x0800,
     nw_dst: 0x0a000005,
-    ..BLANK
+    ..IPV4
 };
-
-/// The switch 1 with the tag 100, between the switches 2 at its port 1 and 3 at its port 2. Both have the tag 101.
-fn view(alloc: Global) -> Result<View, OutOfMemory> {
-    let mut tags = Vids::new(alloc);
-    tags.push(100)?;
-    tags.push(101)?;
-    let mut links = Items::new(alloc);
-    links.push(Near {
-        port: 1,
-        switch: 2,
-        far_port: 1,
-        tag: 101,
-    })?;
-    links.push(Near {
-        port: 2,
-        switch: 3,
-        far_port: 1,
-        tag: 101,
-    })?;
-    Ok(View {
-        switch: 1,
-        tag: 100,
-        tags,
-        links,
-        miss: 128,
-    })
-}
-
-/// The actions that send to the ports, in order.
-fn sends(alloc: Global, ports: &[u16]) -> Result<Actions, OutOfMemory> {
-    let mut actions = Actions::new(alloc);
-    for port in ports {
-        actions.push(Action::Output {
-            port: *port,
-            max_len: 128,
-        })?;
-    }
-    Ok(actions)
-}
-
-/// A rule of this priority that sends what it matches to the ports.
-fn rule(alloc: Global, wildcards: u32, priority: u16, ports: &[u16]) -> Result<Rule, OutOfMemory> {
-    let actions = sends(alloc, ports)?;
-    Ok(Rule {
-        matching: Match::normal(wildcards, TO_5),
-        priority,
-        actions,
-    })
-}
 
 /// The rule for 10.0.0.5, which sends to port 2.
 fn to_5(alloc: Global) -> Result<Rule, OutOfMemory> {
     // Neither the type nor the address is wildcarded.
-    rule(alloc, 0x003fffff & !0x10 & !(63 << 14), 100, &[2])
+    sending(
+        alloc,
+        Match::normal(0x003fffff & !0x10 & !(63 << 14), TO_5),
+        100,
+        &[2],
+    )
 }
 
 /// The rule for all packets, of a lower priority.
 fn to_all(alloc: Global, ports: &[u16]) -> Result<Rule, OutOfMemory> {
-    rule(alloc, 0x003fffff, 1, ports)
+    sending(alloc, Match::normal(0x003fffff, TO_5), 1, ports)
 }
 
 /// The job of this view, table and target.
@@ -110,7 +48,7 @@ fn job(alloc: Global, table: Table, target: Target) -> Result<Job, OutOfMemory>
         slot: 0,
         edit: 1,
         version: 1,
-        view: view(alloc)?,
+        view: two_neighbours(alloc)?,
         table,
         target,
     })

@@ -1,105 +1,19 @@
-//! Tables that were worked out by hand.
+//! Tables that are planned and checked.
 
-ghost use Rattle.std.specs.Prelude.{◌≡◌, IfOk};
-
-use crate::{Certificate, Certificates, Checked, Summary, check_table, job_at, plan_table};
-use mon_header::{Action, Actions, Header, Match, OutOfMemory};
+use crate::{PACKET, ipv4, narrow, two_neighbours, wide};
+use mon_header::{Header, OutOfMemory};
 use mon_list::Items;
 use mon_outcome::Emission;
-use mon_shows::{Near, Target, View};
-use mon_table::{Rule, Table};
-use mon_topo::Vids;
+use mon_plan::{Certificate, Certificates, Checked, Summary, check_table, job_at, plan_table};
+use mon_shows::Target;
+use mon_table::Table;
 use std::alloc::Global;
 use std::test::Fail;
-
-/// A header of zeros that is IPv4 by its Ethernet type.
-const IPV4: Header = Header {
-    in_port: 0,
-    dl_src: 0,
-    dl_dst: 0,
-    dl_vlan: 0,
-    dl_vlan_pcp: 0,
-    dl_type: 0x0800,
-    nw_tos: 0,
-    nw_proto: 0,
-    nw_src: 0,
-    nw_dst: 0,
-    tp_src: 0,
-    tp_dst: 0,
-};
-
-/// A datagram to 10.0.0.1 that comes in at port 1 with the tag 100.
-const PROBE: Header = Header {
-    in_port: 1,
-    dl_src: 0x020000000001,
-    dl_dst: 0x020000000002,
-    dl_vlan: 100,
-    nw_proto: 17,
-    nw_dst: 0x0a000001,
-    ..IPV4
-};
-
-/// The switch 1 with the tag 100, between the switches 2 at its port 1 and 3 at its port 2. Both have the tag 101.
-fn view(alloc: Global) -> Result<View, OutOfMemory> {
-    let mut tags = Vids::new(alloc);
-    tags.push(100)?;
-    tags.push(101)?;
-    let mut links = Items::new(alloc);
-    links.push(Near {
-        port: 1,
-        switch: 2,
-        far_port: 1,
-        tag: 101,
-    })?;
-    links.push(Near {
-        port: 2,
-        switch: 3,
-        far_port: 1,
-        tag: 101,
-    })?;
-    Ok(View {
-        switch: 1,
-        tag: 100,
-        tags,
-        links,
-        miss: 128,
-    })
-}
-
-/// A rule for IPv4 packets from and to these addresses that sends them to port 2.
-fn rule(
-    alloc: Global,
-    wildcards: u32,
-    nw_src: u32,
-    nw_dst: u32,
-    priority: u16,
-) -> Result<Rule, OutOfMemory> {
-    let mut actions = Actions::new(alloc);
-    actions.push(Action::Output {
-        port: 2,
-        max_len: 0,
-    })?;
-    let header = Header {
-        nw_src,
-        nw_dst,
-        ..IPV4
-    };
-    Ok(Rule {
-        matching: Match::normal(wildcards, header),
-        priority,
-        actions,
-    })
-}
-
-/// To 10.0.0.0/24, at priority 100.
-fn narrow(alloc: Global) -> Result<Rule, OutOfMemory> {
-    rule(alloc, 0x003220ef, 0, 0x0a000000, 100)
-}
 
 /// That rule over one for all IPv4 at priority 50, with the same output.
 fn nested(alloc: Global) -> Result<Table, OutOfMemory> {
     let mut table = Table::new(alloc);
-    let _ = table.put(rule(alloc, 0x003820ef, 0, 0, 50)?)?;
+    let _ = table.put(wide(alloc)?)?;
     let _ = table.put(narrow(alloc)?)?;
     Ok(table)
 }
@@ -107,8 +21,8 @@ fn nested(alloc: Global) -> Result<Table, OutOfMemory> {
 /// From 10.0.0.0/8 and to 10.0.0.0/8, both at priority 100.
 fn crossed(alloc: Global) -> Result<Table, OutOfMemory> {
     let mut table = Table::new(alloc);
-    let _ = table.put(rule(alloc, 0x003818ef, 0x0a000000, 0, 100)?)?;
-    let _ = table.put(rule(alloc, 0x003620ef, 0, 0x0a000000, 100)?)?;
+    let _ = table.put(ipv4(alloc, 0x003818ef, 0x0a000000, 0, 100)?)?;
+    let _ = table.put(ipv4(alloc, 0x003620ef, 0, 0x0a000000, 100)?)?;
     Ok(table)
 }
 
@@ -123,7 +37,7 @@ fn watches(
     if place >= table.len() {
         return Ok(false);
     }
-    let job = job_at(alloc, &view(alloc)?, table, place)?;
+    let job = job_at(alloc, &two_neighbours(alloc)?, table, place)?;
     match &job.target {
         Target::Watch { rule } => Ok(rule.priority == priority && job.table.len() == among),
         _ => Ok(false),
@@ -153,7 +67,7 @@ fn is_said(
     certificates: &Certificates,
     said: Checked,
 ) -> Result<bool, OutOfMemory> {
-    Ok(check_table(alloc, &view(alloc)?, table, certificates)? == said)
+    Ok(check_table(alloc, &two_neighbours(alloc)?, table, certificates)? == said)
 }
 
 #[test]
@@ -161,10 +75,10 @@ fn probes_are_refused_by_one_bit(rt: HostRuntime) -> Result<(), Fail> {
     let alloc = rt.alloc();
     let mut table = Table::new(alloc);
     let _ = table.put(narrow(alloc)?)?;
-    assert!(rt; is_said(alloc, &table, &probe(alloc, PROBE)?, Checked::Accepted(1))?);
+    assert!(rt; is_said(alloc, &table, &probe(alloc, PACKET)?, Checked::Accepted(1))?);
     let elsewhere = Header {
         nw_dst: 0x0a000101,
-        ..PROBE
+        ..PACKET
     };
     assert!(rt;
         is_said(
@@ -181,7 +95,7 @@ fn probes_are_refused_by_one_bit(rt: HostRuntime) -> Result<(), Fail> {
 fn jobs_watch_the_rules(rt: HostRuntime) -> Result<(), Fail> {
     let alloc = rt.alloc();
     let mut table = nested(alloc)?;
-    let _ = table.put(rule(alloc, 0x003220ef, 0, 0x0a000100, 70)?)?;
+    let _ = table.put(ipv4(alloc, 0x003220ef, 0, 0x0a000100, 70)?)?;
     assert!(rt; watches(alloc, &table, 1, 70, 2)?);
     assert!(rt; watches(alloc, &table, 2, 50, 3)?);
     Ok(())
@@ -199,7 +113,7 @@ fn there_are_as_many_certificates_as_rules(rt: HostRuntime) -> Result<(), Fail> 
 
 /// Whether the plan of the table is accepted, and has this summary.
 fn plans(alloc: Global, table: &Table, summary: Summary) -> Result<bool, OutOfMemory> {
-    let planned = plan_table(alloc, &view(alloc)?, table, 1)?;
+    let planned = plan_table(alloc, &two_neighbours(alloc)?, table, 1)?;
     let said = Checked::Accepted(summary.rules);
     Ok(Summary::of(&planned) == summary && is_said(alloc, table, &planned, said)?)
 }
