@@ -21,7 +21,7 @@ const DATAGRAM: Header = Header {
 };
 
 /// A header of each class, with a tag and without.
-fn headers() -> [Header; 6] {
+fn headers() -> [Header; 7] {
     [
         DATAGRAM,
         Header {
@@ -48,6 +48,14 @@ fn headers() -> [Header; 6] {
             dl_vlan_pcp: 5,
             dl_type: 0x88b5,
             ..BLANK
+        },
+        Header {
+            dl_type: 0x0806,
+            nw_tos: 0,
+            nw_proto: 2,
+            tp_src: 0,
+            tp_dst: 0,
+            ..DATAGRAM
         },
         Header {
             dl_vlan: 0xffff,

@@ -6,7 +6,7 @@ use Rattle.std.specs.List.{slice_get, Contains}
 use Rattle.std.proofs.lemmas.List.Elements.{Contains-append_left, Contains-append_right, Contains-append_cases}
 use Rattle.std.proofs.lemmas.Bool.{or_cases, or_left, or_right, false≢true, eqb-true, eq-eqb}
 use Rattle.mon_header.specs.declared.class.Class.{Class}
-use Rattle.mon_header.specs.declared.class.Class.TheVariants.{Tcp, Udp, Icmp, OtherIpv4, Plain}
+use Rattle.mon_header.specs.declared.class.Class.TheVariants.{Tcp, Udp, Icmp, OtherIpv4, Plain, Arp}
 use Rattle.mon_table.specs.declared.rule.Rule.{Rule}
 use Rattle.mon_table.specs.Rules.{identity_of}
 use Rattle.mon_table.specs.Tables.{InOrder}
@@ -203,26 +203,23 @@ port-in t x class (near ∷ links) in_port c l i = ⊎_elim
     Contains-append_right (by_winner t x class near.port) (by_port t x class links) c (port-in t x class links in_port c e i))
     (or_cases (near.port == in_port) _ l)
 
+-- a case of one of these classes
+among-classes : (t : List Rule) (x : Target) (links : List Near) (classes : List Class) (k : ℕ) (class : Class) (c : Case) → slice_get classes k ≡ Some class
+    → Contains (by_port t x class links) c → Contains (by_class t x links classes) c
+among-classes t x links [] k class c e i = absurd cc
+among-classes t x links (first ∷ classes) zero class c e i =
+    let same : first ≡ class = cc in
+    Contains-append_left (by_port t x first links) (by_class t x links classes) c (subst (λ (d : Class). Contains (by_port t x d links) c) (sym same) i)
+among-classes t x links (first ∷ classes) (suc k) class c e i =
+    Contains-append_right (by_port t x first links) (by_class t x links classes) c (among-classes t x links classes k class c e i)
+
 class-in : (t : List Rule) (x : Target) (links : List Near) (class : Class) (c : Case) → Contains (by_port t x class links) c → Contains (by_class t x links all_classes) c
-class-in t x links Tcp c i = Contains-append_left (by_port t x Tcp links) (by_class t x links (Udp ∷ Icmp ∷ OtherIpv4 ∷ Plain ∷ [])) c i
-class-in t x links Udp c i =
-    Contains-append_right (by_port t x Tcp links) (by_class t x links (Udp ∷ Icmp ∷ OtherIpv4 ∷ Plain ∷ [])) c
-    (Contains-append_left (by_port t x Udp links) (by_class t x links (Icmp ∷ OtherIpv4 ∷ Plain ∷ [])) c i)
-class-in t x links Icmp c i =
-    Contains-append_right (by_port t x Tcp links) (by_class t x links (Udp ∷ Icmp ∷ OtherIpv4 ∷ Plain ∷ [])) c
-    (Contains-append_right (by_port t x Udp links) (by_class t x links (Icmp ∷ OtherIpv4 ∷ Plain ∷ [])) c
-    (Contains-append_left (by_port t x Icmp links) (by_class t x links (OtherIpv4 ∷ Plain ∷ [])) c i))
-class-in t x links OtherIpv4 c i =
-    Contains-append_right (by_port t x Tcp links) (by_class t x links (Udp ∷ Icmp ∷ OtherIpv4 ∷ Plain ∷ [])) c
-    (Contains-append_right (by_port t x Udp links) (by_class t x links (Icmp ∷ OtherIpv4 ∷ Plain ∷ [])) c
-    (Contains-append_right (by_port t x Icmp links) (by_class t x links (OtherIpv4 ∷ Plain ∷ [])) c
-    (Contains-append_left (by_port t x OtherIpv4 links) (by_class t x links (Plain ∷ [])) c i)))
-class-in t x links Plain c i =
-    Contains-append_right (by_port t x Tcp links) (by_class t x links (Udp ∷ Icmp ∷ OtherIpv4 ∷ Plain ∷ [])) c
-    (Contains-append_right (by_port t x Udp links) (by_class t x links (Icmp ∷ OtherIpv4 ∷ Plain ∷ [])) c
-    (Contains-append_right (by_port t x Icmp links) (by_class t x links (OtherIpv4 ∷ Plain ∷ [])) c
-    (Contains-append_right (by_port t x OtherIpv4 links) (by_class t x links (Plain ∷ [])) c
-    (Contains-append_left (by_port t x Plain links) (by_class t x links []) c i))))
+class-in t x links Tcp c i = among-classes t x links all_classes 0 Tcp c refl i
+class-in t x links Udp c i = among-classes t x links all_classes 1 Udp c refl i
+class-in t x links Icmp c i = among-classes t x links all_classes 2 Icmp c refl i
+class-in t x links OtherIpv4 c i = among-classes t x links all_classes 3 OtherIpv4 c refl i
+class-in t x links Plain c i = among-classes t x links all_classes 4 Plain c refl i
+class-in t x links Arp c i = among-classes t x links all_classes 5 Arp c refl i
 
 pub case-in : (j : Task) (class : Class) (in_port : ℕ) (c : Case) → has_link in_port j.view.links ≡ true → Contains (by_winner j.table j.target class in_port) c → IsCaseOf j c
 unfolding cases_of

@@ -4,7 +4,7 @@ use Rattle.std.specs.Prelude.{◌≡◌, ℕ, suc, ◌<◌, true, List, [], ◌�
 use Rattle.std.specs.List.{slice_get, Contains}
 use Rattle.std.specs.Option.{option_to_list}
 use Rattle.mon_header.specs.declared.class.Class.{Class}
-use Rattle.mon_header.specs.declared.class.Class.TheVariants.{Tcp, Udp, Icmp, OtherIpv4, Plain}
+use Rattle.mon_header.specs.declared.class.Class.TheVariants.{Tcp, Udp, Icmp, OtherIpv4, Plain, Arp}
 use Rattle.mon_header.specs.declared.header.Header.{Header}
 use Rattle.mon_header.specs.Classes.{is_in_class}
 use Rattle.mon_table.specs.declared.rule.Rule.{Rule}
@@ -61,7 +61,7 @@ by_class t x links (class ∷ classes) = by_port t x class links ++ by_class t x
 
 -- all classes, in order
 abbrev pub all_classes : List Class
-all_classes = Tcp ∷ Udp ∷ Icmp ∷ OtherIpv4 ∷ Plain ∷ []
+all_classes = Tcp ∷ Udp ∷ Icmp ∷ OtherIpv4 ∷ Plain ∷ Arp ∷ []
 
 -- the cases of a job, by class, then by port, then by winner, then by position
 unfoldable pub cases_of : Task → List Case

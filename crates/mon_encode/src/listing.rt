@@ -16,12 +16,13 @@ use mon_table::{Rule, Table};
 use std::alloc::Global;
 
 /// All classes, in the order of the cases.
-const CLASSES: [Class; 5] = [
+const CLASSES: [Class; 6] = [
     Class::Tcp,
     Class::Udp,
     Class::Icmp,
     Class::OtherIpv4,
     Class::Plain,
+    Class::Arp,
 ];
 
 /// Appends the cases in which the rule wins, which stands at this place.

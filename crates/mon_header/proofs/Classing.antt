@@ -4,7 +4,7 @@ use Rattle.std.specs.Prelude.{◌==◌, ◌||◌}
 use Rattle.std.proofs.lemmas.Bool.{ltb-true}
 use Rattle.std.proofs.lemmas.Bool.Decides.{nat_tests}
 use Rattle.mon_header.specs.declared.class.Class.{Class}
-use Rattle.mon_header.specs.declared.class.Class.TheVariants.{Tcp, Udp, Icmp, OtherIpv4, Plain}
+use Rattle.mon_header.specs.declared.class.Class.TheVariants.{Tcp, Udp, Icmp, OtherIpv4, Plain, Arp}
 use Rattle.mon_header.specs.declared.header.Header.{Header}
 use Rattle.mon_header.specs.Matching.{InRange}
 use Rattle.mon_header.specs.Classes.{fits, has_tag_fields, is_plain_type, has_form, is_in_class, in_class}
@@ -40,7 +40,8 @@ class-form c h e = second (h.nw_tos % 4 == 0) _ (second (has_tag_fields h) _ (se
 -- the class that the type and the protocol leave
 left_by : ℕ → ℕ → Class
 left_by type protocol =
-    cond (type == 0x0800) (cond (protocol == 6) Tcp (cond (protocol == 17) Udp (cond (protocol == 1) Icmp OtherIpv4))) Plain
+    cond (type == 0x0800) (cond (protocol == 6) Tcp (cond (protocol == 17) Udp (cond (protocol == 1) Icmp OtherIpv4)))
+    (cond (type == 0x0806) Arp Plain)
 
 form-left : (c : Class) (h : Header) → has_form c h ≡ true → left_by h.dl_type h.nw_proto ≡ c
 unfolding has_form is_plain_type left_by
@@ -49,6 +50,7 @@ form-left Udp h e = grind (arith, nat_tests)
 form-left Icmp h e = grind (arith, nat_tests)
 form-left OtherIpv4 h e = grind (arith, nat_tests)
 form-left Plain h e = grind (arith, nat_tests)
+form-left Arp h e = grind (arith, nat_tests)
 
 pub one-class : (c d : Class) (h : Header) → is_in_class c h ≡ true → is_in_class d h ≡ true → c ≡ d
 one-class c d h p q = sym (form-left c h (class-form c h p)) ∙ form-left d h (class-form d h q)
@@ -70,7 +72,8 @@ some-in h e =
     either _ _ e (λ p. (Tcp, p)) (λ e1.
     either _ _ e1 (λ p. (Udp, p)) (λ e2.
     either _ _ e2 (λ p. (Icmp, p)) (λ e3.
-    either _ _ e3 (λ p. (OtherIpv4, p)) (λ p. (Plain, p)))))
+    either _ _ e3 (λ p. (OtherIpv4, p)) (λ e4.
+    either _ _ e4 (λ p. (Plain, p)) (λ p. (Arp, p))))))
 
 in-some : (c : Class) (h : Header) → is_in_class c h ≡ true → in_class h ≡ true
 unfolding in_class
@@ -78,9 +81,13 @@ in-some Tcp h p = left-of (is_in_class Tcp h) _ p
 in-some Udp h p = right-of (is_in_class Tcp h) _ (left-of (is_in_class Udp h) _ p)
 in-some Icmp h p = right-of (is_in_class Tcp h) _ (right-of (is_in_class Udp h) _ (left-of (is_in_class Icmp h) _ p))
 in-some OtherIpv4 h p =
-    right-of (is_in_class Tcp h) _ (right-of (is_in_class Udp h) _ (right-of (is_in_class Icmp h) _ (left-of (is_in_class OtherIpv4 h) (is_in_class Plain h) p)))
+    right-of (is_in_class Tcp h) _ (right-of (is_in_class Udp h) _ (right-of (is_in_class Icmp h) _ (left-of (is_in_class OtherIpv4 h) _ p)))
 in-some Plain h p =
-    right-of (is_in_class Tcp h) _ (right-of (is_in_class Udp h) _ (right-of (is_in_class Icmp h) _ (right-of (is_in_class OtherIpv4 h) _ p)))
+    right-of (is_in_class Tcp h) _ (right-of (is_in_class Udp h) _ (right-of (is_in_class Icmp h) _
+    (right-of (is_in_class OtherIpv4 h) _ (left-of (is_in_class Plain h) (is_in_class Arp h) p))))
+in-some Arp h p =
+    right-of (is_in_class Tcp h) _ (right-of (is_in_class Udp h) _ (right-of (is_in_class Icmp h) _
+    (right-of (is_in_class OtherIpv4 h) _ (right-of (is_in_class Plain h) _ p))))
 
 pub some-class : (h : Header) → (in_class h ≡ true) ↔ ((c : Class) × (is_in_class c h ≡ true))
 some-class h = (some-in h, λ (s : (c : Class) × (is_in_class c h ≡ true)). in-some s.0 h s.1)

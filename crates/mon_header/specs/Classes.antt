@@ -1,7 +1,7 @@
--- The classes of headers that a probe's frame can have (IEEE 802.1Q, RFC 791).
+-- The classes of headers that a probe's frame can have (IEEE 802.1Q, RFC 791, RFC 826).
 use Rattle.std.specs.Prelude.{ℕ, ◌^◌, ◌%◌, Bool, not, ◌==◌, nat_lt, nat_le, ◌&&◌, ◌||◌}
 use Rattle.mon_header.specs.declared.class.Class.{Class}
-use Rattle.mon_header.specs.declared.class.Class.TheVariants.{Tcp, Udp, Icmp, OtherIpv4, Plain}
+use Rattle.mon_header.specs.declared.class.Class.TheVariants.{Tcp, Udp, Icmp, OtherIpv4, Plain, Arp}
 use Rattle.mon_header.specs.declared.header.Header.{Header}
 
 -- the numbers fit their fields
@@ -44,6 +44,7 @@ has_form OtherIpv4 h =
     (h.dl_type == 0x0800)
     && (not (h.nw_proto == 1) && (not (h.nw_proto == 6) && (not (h.nw_proto == 17) && ((h.tp_src == 0) && (h.tp_dst == 0)))))
 has_form Plain h = is_plain_type h.dl_type && has_no_network_fields h
+has_form Arp h = (h.dl_type == 0x0806) && ((h.nw_tos == 0) && ((h.tp_src == 0) && (h.tp_dst == 0)))
 
 -- the header is in this class
 unfoldable pub is_in_class : Class → Header → Bool
@@ -51,4 +52,6 @@ is_in_class c h = fits h && (has_tag_fields h && ((h.nw_tos % 4 == 0) && has_for
 
 -- the header is in some class
 unfoldable pub in_class : Header → Bool
-in_class h = is_in_class Tcp h || (is_in_class Udp h || (is_in_class Icmp h || (is_in_class OtherIpv4 h || is_in_class Plain h)))
+in_class h =
+    is_in_class Tcp h
+    || (is_in_class Udp h || (is_in_class Icmp h || (is_in_class OtherIpv4 h || (is_in_class Plain h || is_in_class Arp h))))

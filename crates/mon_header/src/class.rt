@@ -5,8 +5,9 @@ ghost use Rattle.mon_header.specs.Classes.{fits, has_tag_fields, has_no_network_
 
 use crate::header::Header;
 
-/// What follows the Ethernet header: the transport protocols that a switch looks into, what else IPv4 carries, and
-/// frames of other types, with the payload at once.
+/// What follows the Ethernet header: the transport protocols that a switch looks into, what else IPv4 carries, frames
+/// of other types, with the payload at once, and ARP, whose addresses a switch looks into, with the low byte of its
+/// operation as protocol.
 #[derive(Clone, Copy, Debug, PartialEq, Eq)]
 pub enum Class {
     Tcp,
@@ -14,6 +15,7 @@ pub enum Class {
     Icmp,
     OtherIpv4,
     Plain,
+    Arp,
 }
 
 /// Whether the addresses fit in 48 bits; the types of the other fields see to those.
@@ -73,6 +75,7 @@ fn has_form(class: Class, h: &Header) -> bool
                 && h.tp_dst == 0
         }
         Class::Plain => is_plain_type(h.dl_type) && has_no_network_fields(h),
+        Class::Arp => h.dl_type == 0x0806 && h.nw_tos == 0 && h.tp_src == 0 && h.tp_dst == 0,
     }
 }
 
@@ -95,4 +98,5 @@ pub fn in_class(h: &Header) -> bool
         || is_in_class(Class::Icmp, h)
         || is_in_class(Class::OtherIpv4, h)
         || is_in_class(Class::Plain, h)
+        || is_in_class(Class::Arp, h)
 }

@@ -159,6 +159,12 @@ fn headers_are_in_their_classes(rt: HostRuntime) {
         dl_type: 0x88b5,
         ..BLANK
     };
+    let arp = Header {
+        dl_type: 0x0806,
+        tp_src: 0,
+        tp_dst: 0,
+        ..udp
+    };
     let cases = [
         (udp, Some(Class::Udp)),
         (Header { nw_proto: 6, ..udp }, Some(Class::Tcp)),
@@ -195,10 +201,21 @@ fn headers_are_in_their_classes(rt: HostRuntime) {
             None,
         ),
         (plain, Some(Class::Plain)),
+        (arp, Some(Class::Arp)),
         (
             Header {
                 dl_type: 0x0806,
                 ..plain
+            },
+            Some(Class::Arp),
+        ),
+        (Header { nw_tos: 4, ..arp }, None),
+        (Header { tp_src: 1, ..arp }, None),
+        (Header { tp_dst: 1, ..arp }, None),
+        (
+            Header {
+                dl_type: 0x88b5,
+                ..arp
             },
             None,
         ),
@@ -211,6 +228,7 @@ fn headers_are_in_their_classes(rt: HostRuntime) {
             Class::Icmp,
             Class::OtherIpv4,
             Class::Plain,
+            Class::Arp,
         ] {
             assert!(rt; is_in_class(other, h) == (*class == Some(other)), "{i}");
         }

@@ -6,7 +6,7 @@ use Rattle.std.proofs.lemmas.List.Folds.{list_all-append}
 use Rattle.std.proofs.lemmas.Bool.{eqb-true, lt-ltb, and_parts, and_from, or_left}
 use Rattle.mon_cnf.specs.Truth.{formula_true}
 use Rattle.mon_header.specs.declared.class.Class.{Class}
-use Rattle.mon_header.specs.declared.class.Class.TheVariants.{Tcp, Udp, Icmp, OtherIpv4, Plain}
+use Rattle.mon_header.specs.declared.class.Class.TheVariants.{Tcp, Udp, Icmp, OtherIpv4, Plain, Arp}
 use Rattle.mon_header.specs.declared.header.Header.{Header}
 use Rattle.mon_header.specs.Classes.{fits, has_tag_fields, has_no_network_fields, is_plain_type, has_form, is_in_class, in_class}
 use Rattle.mon_header.proofs.Classing.{some-class}
@@ -83,6 +83,11 @@ form_met v h OtherIpv4 f =
     last _ _ (is_number v 248 16 0 h.tp_dst f.tp_dst (omega arith)))))))
 form_met v h Plain f =
     list_all-append (met v) plain_type no_network_fields ∙ pair _ _ _ _ (plain_type_met v h f) (no_network_fields_met v h f)
+form_met v h Arp f =
+    pair _ _ _ _ (is_number v 136 16 0x0806 h.dl_type f.dl_type (omega arith)) (
+    pair _ _ _ _ (is_number v 152 8 0 h.nw_tos f.nw_tos (omega arith)) (
+    pair _ _ _ _ (is_number v 232 16 0 h.tp_src f.tp_src (omega arith)) (
+    last _ _ (is_number v 248 16 0 h.tp_dst f.tp_dst (omega arith)))))
 
 -- six tests hold
 record Six (a b c d e f : Bool) : Type 0 where

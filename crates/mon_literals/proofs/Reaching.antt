@@ -6,7 +6,7 @@ use Rattle.std.proofs.lemmas.Bool.{leb-true, and_parts}
 use Rattle.mon_cnf.specs.declared.clause.Lit.{Lit}
 use Rattle.mon_cnf.specs.Truth.{Within, WithinAll}
 use Rattle.mon_header.specs.declared.class.Class.{Class}
-use Rattle.mon_header.specs.declared.class.Class.TheVariants.{Tcp, Udp, Icmp, OtherIpv4, Plain}
+use Rattle.mon_header.specs.declared.class.Class.TheVariants.{Tcp, Udp, Icmp, OtherIpv4, Plain, Arp}
 use Rattle.mon_header.specs.Matching.{Matching}
 use Rattle.mon_header.specs.Places.{bits_of}
 use Rattle.mon_outcome.specs.declared.rewrite.Rewrite.{Rewrite}
@@ -111,6 +111,7 @@ asked_in_header tag in_port Udp = refl
 asked_in_header tag in_port Icmp = refl
 asked_in_header tag in_port OtherIpv4 = refl
 asked_in_header tag in_port Plain = refl
+asked_in_header tag in_port Arp = refl
 
 pub class_within : (view : Viewing) (c : Class) (in_port : ℕ) → WithinAll 264 (class_clauses view c in_port)
 unfolding class_clauses

@@ -2,7 +2,7 @@
 use Rattle.std.specs.Prelude.{ℕ, ◌+◌, Bool, nat_le, List, [], ◌∷◌, ◌++◌, flat_map}
 use Rattle.mon_cnf.specs.declared.clause.Lit.{Lit}
 use Rattle.mon_header.specs.declared.class.Class.{Class}
-use Rattle.mon_header.specs.declared.class.Class.TheVariants.{Tcp, Udp, Icmp, OtherIpv4, Plain}
+use Rattle.mon_header.specs.declared.class.Class.TheVariants.{Tcp, Udp, Icmp, OtherIpv4, Plain, Arp}
 use Rattle.mon_header.specs.Places.{header_size}
 use Rattle.mon_shows.specs.Views.{Viewing}
 use Rattle.mon_literals.specs.declared.condition.Condition.{Condition}
@@ -30,7 +30,7 @@ no_network_fields =
     Is (run 152 8 0) ∷ Is (run 160 8 0) ∷ Is (run 168 32 0) ∷ Is (run 200 32 0) ∷ Is (run 232 16 0) ∷ Is (run 248 16 0) ∷ []
 
 -- what the class asks: the type of IPv4 and the protocol; of ICMP also a type and a code below 256; or none of these
--- protocols, and no ports; or a plain type, and nothing else
+-- protocols, and no ports; or a plain type, and nothing else; or the type of ARP, and neither a type of service nor ports
 abbrev pub form_of : Class → List Condition
 form_of Tcp = Is (run 136 16 0x0800) ∷ Is (run 160 8 6) ∷ []
 form_of Udp = Is (run 136 16 0x0800) ∷ Is (run 160 8 17) ∷ []
@@ -39,6 +39,7 @@ form_of OtherIpv4 =
     Is (run 136 16 0x0800) ∷ IsNot (run 160 8 1) ∷ IsNot (run 160 8 6) ∷ IsNot (run 160 8 17)
     ∷ Is (run 232 16 0) ∷ Is (run 248 16 0) ∷ []
 form_of Plain = plain_type ++ no_network_fields
+form_of Arp = Is (run 136 16 0x0806) ∷ Is (run 152 8 0) ∷ Is (run 232 16 0) ∷ Is (run 248 16 0) ∷ []
 
 -- what is asked whatever the class: the port and the tag, a VLAN priority below 8, a source that is one station, a
 -- destination that is neither the mark of dropped packets nor one that bridges keep to themselves, whose upper 44 bits

@@ -132,6 +132,16 @@ fn push_form(alloc: Global, f: &mut Formula, class: Class) -> Result<(), OutOfMe
             push_conditions(alloc, f, &plain_type())?;
             push_conditions(alloc, f, &no_network_fields())
         }
+        Class::Arp => push_conditions(
+            alloc,
+            f,
+            &[
+                is(136, 16, 0x0806),
+                is(152, 8, 0),
+                is(232, 16, 0),
+                is(248, 16, 0),
+            ],
+        ),
     }
 }
 

@@ -5,7 +5,7 @@ use Rattle.std.proofs.lemmas.Bool.{eq-eqb, lt-ltb}
 use Rattle.std.proofs.lemmas.Bool.Decides.{nat_tests}
 use Rattle.std.proofs.lemmas.List.{at_drop_all}
 use Rattle.mon_header.specs.declared.class.Class.{Class}
-use Rattle.mon_header.specs.declared.class.Class.TheVariants.{Tcp, Udp, Icmp, OtherIpv4, Plain}
+use Rattle.mon_header.specs.declared.class.Class.TheVariants.{Tcp, Udp, Icmp, OtherIpv4, Plain, Arp}
 use Rattle.mon_header.specs.declared.header.Header.{Header}
 use Rattle.mon_header.specs.declared.action.Action.{Action}
 use Rattle.mon_header.specs.declared.action.Action.TheVariants.{Output, SetVlanVid, SetVlanPcp, StripVlan, SetDlSrc, SetDlDst, SetNwSrc, SetNwDst, SetNwTos, SetTpSrc, SetTpDst, Enqueue, Unknown}
@@ -51,6 +51,7 @@ class-ipv4 Udp h e = first _ _ e
 class-ipv4 Icmp h e = first _ _ e
 class-ipv4 OtherIpv4 h e = first _ _ e
 class-ipv4 Plain h e = grind (arith, nat_tests)
+class-ipv4 Arp h e = grind (arith, nat_tests)
 
 -- headers with ports are those of two classes
 pub class-ports : (c : Class) (h : Header) → has_form c h ≡ true → has_ports h ≡ has_class_ports c
@@ -60,6 +61,7 @@ class-ports Udp h e = grind (arith, nat_tests)
 class-ports Icmp h e = grind (arith, nat_tests)
 class-ports OtherIpv4 h e = grind (arith, nat_tests)
 class-ports Plain h e = grind (arith, nat_tests)
+class-ports Arp h e = grind (arith, nat_tests)
 
 -- an address of IPv4 is no part of a form
 nw_src-kept : (c : Class) (h : Header) (b : Bool) (x : ℕ) → has_form c h ≡ true → b ≡ is_ipv4_class c
@@ -71,6 +73,8 @@ nw_src-kept Icmp h b x e g = e
 nw_src-kept OtherIpv4 h b x e g = e
 nw_src-kept Plain h true x e g = absurd cc
 nw_src-kept Plain h false x e g = e
+nw_src-kept Arp h true x e g = absurd cc
+nw_src-kept Arp h false x e g = e
 
 nw_dst-kept : (c : Class) (h : Header) (b : Bool) (x : ℕ) → has_form c h ≡ true → b ≡ is_ipv4_class c
     → has_form c (record h { nw_dst = if b then x else h.nw_dst }) ≡ true
@@ -81,6 +85,8 @@ nw_dst-kept Icmp h b x e g = e
 nw_dst-kept OtherIpv4 h b x e g = e
 nw_dst-kept Plain h true x e g = absurd cc
 nw_dst-kept Plain h false x e g = e
+nw_dst-kept Arp h true x e g = absurd cc
+nw_dst-kept Arp h false x e g = e
 
 nw_tos-kept : (c : Class) (h : Header) (b : Bool) (x : ℕ) → has_form c h ≡ true → b ≡ is_ipv4_class c
     → has_form c (record h { nw_tos = if b then x else h.nw_tos }) ≡ true
@@ -91,6 +97,8 @@ nw_tos-kept Icmp h b x e g = e
 nw_tos-kept OtherIpv4 h b x e g = e
 nw_tos-kept Plain h true x e g = absurd cc
 nw_tos-kept Plain h false x e g = e
+nw_tos-kept Arp h true x e g = absurd cc
+nw_tos-kept Arp h false x e g = e
 
 tp_src-kept : (c : Class) (h : Header) (b : Bool) (x : ℕ) → has_form c h ≡ true → b ≡ has_class_ports c
     → has_form c (record h { tp_src = if b then x else h.tp_src }) ≡ true
@@ -103,6 +111,8 @@ tp_src-kept OtherIpv4 h true x e g = absurd cc
 tp_src-kept OtherIpv4 h false x e g = e
 tp_src-kept Plain h true x e g = absurd cc
 tp_src-kept Plain h false x e g = e
+tp_src-kept Arp h true x e g = absurd cc
+tp_src-kept Arp h false x e g = e
 
 tp_dst-kept : (c : Class) (h : Header) (b : Bool) (x : ℕ) → has_form c h ≡ true → b ≡ has_class_ports c
     → has_form c (record h { tp_dst = if b then x else h.tp_dst }) ≡ true
@@ -115,6 +125,8 @@ tp_dst-kept OtherIpv4 h true x e g = absurd cc
 tp_dst-kept OtherIpv4 h false x e g = e
 tp_dst-kept Plain h true x e g = absurd cc
 tp_dst-kept Plain h false x e g = e
+tp_dst-kept Arp h true x e g = absurd cc
+tp_dst-kept Arp h false x e g = e
 
 -- a form reads no field of Ethernet but the type
 same-form : (c : Class) (h k : Header) → has_form c h ≡ true → k.dl_type ≡ h.dl_type → k.nw_tos ≡ h.nw_tos → k.nw_proto ≡ h.nw_proto
@@ -125,6 +137,7 @@ same-form Udp h k e e1 e2 e3 e4 e5 e6 e7 = rw (e1, e3) e
 same-form Icmp h k e e1 e2 e3 e4 e5 e6 e7 = rw (e1, e3, e6, e7) e
 same-form OtherIpv4 h k e e1 e2 e3 e4 e5 e6 e7 = simp (e1, e3, e6, e7) e
 same-form Plain h k e e1 e2 e3 e4 e5 e6 e7 = simp (e1, e2, e3, e4, e5, e6, e7) e
+same-form Arp h k e e1 e2 e3 e4 e5 e6 e7 = rw (e1, e2, e6, e7) e
 
 -- a chosen number is small where both are
 chosen-small : (b : Bool) (x y size : ℕ) → x < size → y < size → (if b then x else y) < size

@@ -55,7 +55,7 @@ fn is_ipv4_class(class: Class) -> bool
 {
     match class {
         Class::Tcp | Class::Udp | Class::Icmp | Class::OtherIpv4 => true,
-        Class::Plain => false,
+        Class::Plain | Class::Arp => false,
     }
 }
 
@@ -65,7 +65,7 @@ fn has_class_ports(class: Class) -> bool
 {
     match class {
         Class::Tcp | Class::Udp => true,
-        Class::Icmp | Class::OtherIpv4 | Class::Plain => false,
+        Class::Icmp | Class::OtherIpv4 | Class::Plain | Class::Arp => false,
     }
 }
 

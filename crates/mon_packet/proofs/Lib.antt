@@ -3,6 +3,7 @@ pub mod Summing
 pub mod Choosing
 pub mod Links
 pub mod Packets
+pub mod Arp
 pub mod RoundTrip
 pub mod Checking
 pub mod SumsOfFrames

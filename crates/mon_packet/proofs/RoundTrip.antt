@@ -5,21 +5,22 @@ use Rattle.std.proofs.lemmas.Bool.{eq-eqb, eqb-true, ltb-true}
 use Rattle.std.proofs.lemmas.Bool.Decides.{nat_tests}
 use Rattle.std.proofs.lemmas.List.{drop_at}
 use Rattle.mon_header.specs.declared.class.Class.{Class}
-use Rattle.mon_header.specs.declared.class.Class.TheVariants.{Tcp, Udp, Icmp, OtherIpv4, Plain}
+use Rattle.mon_header.specs.declared.class.Class.TheVariants.{Tcp, Udp, Icmp, OtherIpv4, Plain, Arp}
 use Rattle.mon_header.specs.declared.header.Header.{Header}
 use Rattle.mon_header.specs.Matching.{InRange}
 use Rattle.mon_header.specs.Classes.{has_form, has_no_network_fields, is_plain_type}
 use Rattle.mon_header.proofs.Twelve.{first, second}
 use Rattle.mon_packet.specs.declared.nonce.Nonce.{Nonce}
 use Rattle.mon_packet.specs.Sums.{checksum}
-use Rattle.mon_packet.specs.Frames.{payload, ethernet_header, ethernet_size, ipv4_header, tcp_header, udp_header, icmp_header, tcp_sum, udp_sum, icmp_sum, transport_header, network_headers, body, padding, rendered}
-use Rattle.mon_packet.specs.Reading.{is_type, nonce_of, transport_of, plain_header, ethernet_of, packet_of, with_ethernet, Read, parsed}
+use Rattle.mon_packet.specs.Frames.{payload, ethernet_header, ethernet_size, ipv4_header, tcp_header, udp_header, icmp_header, tcp_sum, udp_sum, icmp_sum, transport_header, network_headers, arp_packet, body, padding, rendered}
+use Rattle.mon_packet.specs.Reading.{is_type, nonce_of, transport_of, plain_header, ethernet_of, packet_of, arp_of, with_ethernet, Read, parsed}
 use Rattle.mon_packet.specs.Laws.{ReadsBack}
 use Rattle.mon_packet.proofs.Choosing.{if-true, if-false}
 use Rattle.mon_header.proofs.Parting.{IsOf}
 use Rattle.mon_packet.proofs.Fitting.{class-parts, Tagged, tag-fits, untagged-pcp}
 use Rattle.mon_packet.proofs.Links.{link, link-read}
 use Rattle.mon_packet.proofs.Packets.{IsNonce, nonce-read, packet-read, tcp-read, udp-read, icmp-read}
+use Rattle.mon_packet.proofs.Arp.{arp-form, arp-read}
 
 -- the header without its port
 abbrev portless : Header → Header
@@ -68,12 +69,23 @@ read-packet c h rest p e =
     ∙ if-true _ _ _ (eq-eqb _ _ e)
     ∙ ap (packet_of (link h)) (drop_at (ethernet_header h) rest (ethernet_size h) f.1)
 
-read-plain : (c : Class) (h : Header) (rest : List ℕ) → IsOf c h → is_type h.dl_type ≡ true → (h.dl_type == 0x0800) ≡ false
+read-arp : (c : Class) (h : Header) (rest : List ℕ) → IsOf c h → h.dl_type ≡ 0x0806
+    → parsed (ethernet_header h ++ rest) ≡ arp_of (link h) rest
+read-arp c h rest p e =
+    let f = front-read c h rest p (ap is_type e) in
+    ap (with_ethernet (ethernet_header h ++ rest)) f.0
+    ∙ if-false _ _ _ (ap (λ (t : ℕ). t == 0x0800) e)
+    ∙ if-true _ _ _ (eq-eqb _ _ e)
+    ∙ ap (arp_of (link h)) (drop_at (ethernet_header h) rest (ethernet_size h) f.1)
+
+read-plain : (c : Class) (h : Header) (rest : List ℕ) → IsOf c h → is_type h.dl_type ≡ true
+    → (h.dl_type == 0x0800) ≡ false → (h.dl_type == 0x0806) ≡ false
     → parsed (ethernet_header h ++ rest) ≡ Some (plain_header (link h), nonce_of rest)
-read-plain c h rest p t e =
+read-plain c h rest p t e g =
     let f = front-read c h rest p t in
     ap (with_ethernet (ethernet_header h ++ rest)) f.0
     ∙ if-false _ _ _ e
+    ∙ if-false _ _ _ g
     ∙ ap (λ (r : List ℕ). Some (plain_header (link h), nonce_of r)) (drop_at (ethernet_header h) rest (ethernet_size h) f.1)
 
 -- what follows the header of Ethernet, by type
@@ -85,9 +97,16 @@ packet-body h n ip next pad e heads =
     ∙ append_assoc (ip ++ next) (payload n) (pad)
     ∙ append_assoc (ip) (next) (payload n ++ pad)
 
-plain-body : (h : Header) (n : Nonce) (pad : List ℕ) → (h.dl_type == 0x0800) ≡ false → body h n ++ pad ≡ payload n ++ pad
+arp-body : (h : Header) (n : Nonce) (pad : List ℕ) → h.dl_type ≡ 0x0806 → body h n ++ pad ≡ arp_packet h ++ (payload n ++ pad)
 unfolding body
-plain-body h n pad e = ap (λ (b : List ℕ). b ++ pad) (if-false _ _ _ e)
+arp-body h n pad e =
+    ap (λ (b : List ℕ). b ++ pad) (if-false _ _ _ (ap (λ (t : ℕ). t == 0x0800) e) ∙ if-true _ _ _ (eq-eqb _ _ e))
+    ∙ append_assoc (arp_packet h) (payload n) (pad)
+
+plain-body : (h : Header) (n : Nonce) (pad : List ℕ) → (h.dl_type == 0x0800) ≡ false → (h.dl_type == 0x0806) ≡ false
+    → body h n ++ pad ≡ payload n ++ pad
+unfolding body
+plain-body h n pad e g = ap (λ (b : List ℕ). b ++ pad) (if-false _ _ _ e ∙ if-false _ _ _ g)
 
 -- a frame of IPv4, once its packet is read
 ip-back : (c : Class) (h : Header) (n : Nonce) (ip next : List ℕ) (r : Read) → IsOf c h → h.dl_type ≡ 0x0800
@@ -169,6 +188,7 @@ other-form h e = record {
 pub record PlainForm (h : Header) : Type 0 where
   pub type : is_type h.dl_type ≡ true
   pub ip : (h.dl_type == 0x0800) ≡ false
+  pub arp : (h.dl_type == 0x0806) ≡ false
   pub tos : h.nw_tos ≡ 0
   pub proto : h.nw_proto ≡ 0
   pub nw_src : h.nw_src ≡ 0
@@ -181,6 +201,7 @@ unfolding has_form is_plain_type has_no_network_fields
 plain-form h e = record {
   type = grind (arith, nat_tests);
   ip = grind (arith, nat_tests);
+  arp = grind (arith, nat_tests);
   tos = grind (arith, nat_tests);
   proto = grind (arith, nat_tests);
   nw_src = grind (arith, nat_tests);
@@ -233,10 +254,17 @@ class-back Plain h n p k =
     let f = plain-form h p.form in
     let l = laid-out h n in
     ap parsed l.1
-    ∙ read-plain Plain h (body h n ++ l.0) p f.type f.ip
-    ∙ ap (λ (rest : List ℕ). Some (plain_header (link h), nonce_of rest)) (plain-body h n l.0 f.ip)
+    ∙ read-plain Plain h (body h n ++ l.0) p f.type f.ip f.arp
+    ∙ ap (λ (rest : List ℕ). Some (plain_header (link h), nonce_of rest)) (plain-body h n l.0 f.ip f.arp)
     ∙ ap (λ (m : Option Nonce). Some (plain_header (link h), m)) (nonce-read n l.0 k)
     ∙ ap (λ (g : Header). Some (g, Some n)) (plain-shown h f)
+class-back Arp h n p k =
+    let f = arp-form h p.form in
+    let l = laid-out h n in
+    ap parsed l.1
+    ∙ read-arp Arp h (body h n ++ l.0) p f.type
+    ∙ ap (arp_of (link h)) (arp-body h n l.0 f.type)
+    ∙ arp-read h n l.0 p.range f k
 
 pub frame-read : (h : Header) (n : Nonce) → ReadsBack h n
 frame-read h n e key serial =

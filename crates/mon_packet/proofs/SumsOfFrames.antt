@@ -6,7 +6,7 @@ use Rattle.std.proofs.lemmas.List.{drop_at}
 use Rattle.byteorder.specs.Endian.{big_bytes}
 use Rattle.byteorder.specs.Numbers.{big_number-reads_back}
 use Rattle.mon_header.specs.declared.class.Class.{Class}
-use Rattle.mon_header.specs.declared.class.Class.TheVariants.{Tcp, Udp, Icmp, OtherIpv4, Plain}
+use Rattle.mon_header.specs.declared.class.Class.TheVariants.{Tcp, Udp, Icmp, OtherIpv4, Plain, Arp}
 use Rattle.mon_header.specs.declared.header.Header.{Header}
 use Rattle.mon_header.specs.Matching.{InRange}
 use Rattle.mon_header.specs.Classes.{has_form}
@@ -21,6 +21,7 @@ use Rattle.mon_packet.proofs.Fitting.{class-parts}
 use Rattle.mon_packet.proofs.Packets.{proto-read, total-read}
 use Rattle.mon_packet.proofs.Checking.{AreBytes, bytes-append, number-bytes, checked, checked-udp, not-zero, zero-small}
 use Rattle.mon_packet.proofs.RoundTrip.{front-read, laid-out, packet-body, tcp-headers, udp-headers, icmp-headers, other-headers, OtherForm, other-form, ip-form, two-form, plain-form}
+use Rattle.mon_packet.proofs.Arp.{arp-form}
 
 -- the parts of a packet's header before and behind its checksum
 abbrev ip_front : Header → ℕ → List ℕ
@@ -234,6 +235,9 @@ class-sums OtherIpv4 h n p e =
 class-sums Plain h n p e =
     let f = plain-form h p.form in
     absurd (not-this _ _ f.ip e)
+class-sums Arp h n p e =
+    let f = arp-form h p.form in
+    absurd (not-this _ _ (ap (λ (t : ℕ). t == 0x0800) f.type) e)
 
 pub frame-checked : (h : Header) (n : Nonce) → IsChecked h n
 frame-checked h n inside e = let c = class-parts h inside in class-sums c.0 h n c.1 e

@@ -1,4 +1,4 @@
--- The layout of probe frames (IEEE 802.1Q, RFC 791, 9293, 768, 792).
+-- The layout of probe frames (IEEE 802.1Q, RFC 791, 9293, 768, 792, 826).
 use Rattle.std.specs.Prelude.{ℕ, ◌+◌, ◌*◌, ◌-◌, ◌==◌, if◌then◌else◌, List, [], ◌∷◌, ◌++◌, length, replicate}
 use Rattle.byteorder.specs.Endian.{big_bytes}
 use Rattle.mon_header.specs.declared.header.Header.{Header}
@@ -79,9 +79,24 @@ network_headers h n =
     let size = transport_size h + 24 in
     ipv4_header h size (checksum (ipv4_header h size 0)) ++ transport_header h n
 
+-- a packet of ARP from and to these addresses of IPv4, with the protocol as its operation; its addresses of Ethernet are 0
+unfoldable pub arp_packet : Header → List ℕ
+arp_packet h =
+    big_bytes 2 1
+    ++ (big_bytes 2 0x0800
+    ++ (6 ∷ 4
+    ∷ (big_bytes 2 h.nw_proto
+    ++ (0 ∷ 0 ∷ 0 ∷ 0 ∷ 0 ∷ 0
+    ∷ (big_bytes 4 h.nw_src
+    ++ (0 ∷ 0 ∷ 0 ∷ 0 ∷ 0 ∷ 0
+    ∷ big_bytes 4 h.nw_dst))))))
+
 -- what follows the header of Ethernet
 unfoldable pub body : Header → Nonce → List ℕ
-body h n = if h.dl_type == 0x0800 then network_headers h n ++ payload n else payload n
+body h n =
+    if h.dl_type == 0x0800 then network_headers h n ++ payload n
+    else (if h.dl_type == 0x0806 then arp_packet h ++ payload n
+    else payload n)
 
 -- zeros up to 64 bytes
 abbrev pub padding : ℕ → List ℕ

@@ -1,4 +1,4 @@
--- How a frame is read (IEEE 802.1Q, RFC 791, 9293, 768, 792).
+-- How a frame is read (IEEE 802.1Q, RFC 791, 9293, 768, 792, 826).
 use Rattle.std.specs.Prelude.{ℕ, ◌*◌, ◌-◌, ◌/◌, ◌%◌, Bool, not, ◌==◌, nat_le, ◌&&◌, if◌then◌else◌, List, drop, take, length, slice_index, Option, Some, None}
 use Rattle.mon_fields.specs.Fields.{number_at}
 use Rattle.mon_header.specs.declared.header.Header.{Header}
@@ -80,7 +80,7 @@ transport_of protocol packet =
     else (if protocol == 1 then icmp_of packet
     else Some (record { tp_src = 0; tp_dst = 0; end = 20 })))
 
--- the header of a frame of another type than IPv4
+-- the header of a frame of another type than IPv4 and ARP
 unfoldable pub plain_header : Ethernet → Header
 plain_header e = record {
   in_port = 0;
@@ -114,6 +114,23 @@ ipv4_fields e t packet = record {
   tp_dst = t.tp_dst;
 }
 
+-- a packet of ARP that gives addresses of Ethernet, which have 6 bytes, to those of IPv4, which have 4
+unfoldable pub is_arp : List ℕ → Bool
+is_arp packet =
+    nat_le 28 (length packet)
+    && ((number_at 2 0 packet == 1)
+    && ((number_at 2 2 packet == 0x0800)
+    && ((slice_index packet 4 == 6)
+    && (slice_index packet 5 == 4))))
+
+-- the header of a frame of ARP: the low byte of the operation is the protocol
+unfoldable pub arp_fields : Ethernet → List ℕ → Header
+arp_fields e packet = record (plain_header e) {
+  nw_proto = number_at 2 6 packet % 256;
+  nw_src = number_at 4 14 packet;
+  nw_dst = number_at 4 24 packet;
+}
+
 abbrev pub Read : Type 0
 Read = Option (Header × Option Nonce)
 
@@ -127,12 +144,17 @@ abbrev pub packet_of : Ethernet → List ℕ → Read
 packet_of e packet =
     if is_ipv4 packet then with_transport e packet (transport_of (slice_index packet 9) packet) else None
 
+-- a packet of ARP, and the payload behind it
+abbrev pub arp_of : Ethernet → List ℕ → Read
+arp_of e packet = if is_arp packet then Some (arp_fields e packet, nonce_of (drop 28 packet)) else None
+
 -- what follows the header of Ethernet
 abbrev pub with_ethernet : List ℕ → Option Ethernet → Read
 with_ethernet bytes None = None
 with_ethernet bytes (Some e) =
     if e.dl_type == 0x0800 then packet_of e (drop e.size bytes)
-    else Some (plain_header e, nonce_of (drop e.size bytes))
+    else (if e.dl_type == 0x0806 then arp_of e (drop e.size bytes)
+    else Some (plain_header e, nonce_of (drop e.size bytes)))
 
 -- the header and the nonce of a frame; the port at which it came in is not in it
 abbrev pub parsed : List ℕ → Read

@@ -1,4 +1,4 @@
-//! Probe frames: packets of a given header that carry a nonce (IEEE 802.1Q, RFC 791, 9293, 768, 792).
+//! Probe frames: packets of a given header that carry a nonce (IEEE 802.1Q, RFC 791, 9293, 768, 792, 826).
 //!
 //! `render` writes a frame of a header in a class, with right checksums, and `parse` reads any frame: what it reads of
 //! a rendered one is that header, without its port, and the nonce. The definitions of both stand apart, one by what a

@@ -55,6 +55,15 @@ const TUNNEL: Header = Header {
     ..DATAGRAM
 };
 
+/// A packet of ARP from 10.0.0.1 to 10.0.0.2, of the operation 1.
+const ARP: Header = Header {
+    dl_type: 0x0806,
+    nw_proto: 1,
+    nw_src: 0x0a000001,
+    nw_dst: 0x0a000002,
+    ..PLAIN
+};
+
 /// The bytes of hexadecimal digits; what is no digit is skipped.
 fn bytes(alloc: Global, text: &str) -> Result<Vec<u8>, Fail> {
     let mut out = Vec::new(alloc);
@@ -108,8 +117,12 @@ fn frames_are_as_by_hand(rt: HostRuntime) -> Result<(), Fail> {
     let tunnel = "020000000002 020000000001 81000064 0800
         4500 002c 00000000 402f 66a1 0a000001 0a000002
         4d4f4e4f434c4531 0000000000000001 0000000000000005 0000";
+    let arp = "020000000002 020000000001 81000064 0806
+        0001 0800 06 04 0001 000000000000 0a000001 000000000000 0a000002
+        4d4f4e4f434c4531 0000000000000001 0000000000000001";
     let cases = [
         (PLAIN, 1, plain),
+        (ARP, 1, arp),
         (DATAGRAM, 2, datagram),
         (SEGMENT, 3, segment),
         (ECHO, 4, echo),
@@ -143,6 +156,24 @@ fn a_cut_frame_is_read_as_far_as_it_goes(rt: HostRuntime) -> Result<(), Fail> {
     Ok(())
 }
 
+/// Whether the header's frame with this byte at a place is read, with a nonce or without.
+fn read_with(
+    alloc: Global,
+    h: &Header,
+    n: Nonce,
+    place: usize,
+    byte: u8,
+) -> Result<Option<bool>, Fail> {
+    let mut frame = frame_of(alloc, h, n)?;
+    if place < frame.len() {
+        frame[place] = byte;
+    }
+    Ok(match parse(&frame) {
+        Some((_, nonce)) => Some(nonce.is_some()),
+        None => None,
+    })
+}
+
 #[test]
 fn what_is_no_probe_is_told_apart(rt: HostRuntime) -> Result<(), Fail> {
     let alloc = rt.alloc();
@@ -166,15 +197,35 @@ fn what_is_no_probe_is_told_apart(rt: HostRuntime) -> Result<(), Fail> {
         (46, 0x00, Some(false)),
     ];
     for (place, byte, read) in cases {
-        let mut frame = frame_of(alloc, &DATAGRAM, n)?;
-        if place < frame.len() {
-            frame[place] = byte;
-        }
-        let found = match parse(&frame) {
-            Some((_, nonce)) => Some(nonce.is_some()),
-            None => None,
-        };
-        assert!(rt; found == read, "{place}");
+        assert!(rt;
+            read_with(alloc, &DATAGRAM, n, place, byte)? == read,
+            "{place}"
+        );
     }
+    Ok(())
+}
+
+#[test]
+fn arp_is_told_by_its_first_six_bytes(rt: HostRuntime) -> Result<(), Fail> {
+    let alloc = rt.alloc();
+    let n = Nonce { key: 1, serial: 1 };
+    for (place, byte, read) in [
+        (18, 0x01, None),
+        (19, 0x06, None),
+        (20, 0x86, None),
+        (21, 0xdd, None),
+        (22, 0x08, None),
+        (23, 0x10, None),
+        (24, 0x01, Some(true)),
+        (46, 0x00, Some(false)),
+    ] {
+        assert!(rt; read_with(alloc, &ARP, n, place, byte)? == read, "{place}");
+    }
+    let mut frame = frame_of(alloc, &ARP, n)?;
+    assert!(rt; frame.len() == 70);
+    frame.truncate(46);
+    assert!(rt; reads(&frame, &ARP, None));
+    frame.truncate(45);
+    assert!(rt; parse(&frame).is_none());
     Ok(())
 }

@@ -2,7 +2,7 @@
 
 ghost use Rattle.std.specs.Prelude.{◌≡◌, ◌<◌, ◌^◌, ◌%◌, ◌++◌, length, IfOk, OnOk, IsTrue};
 ghost use Rattle.mon_header.specs.Classes.{in_class};
-ghost use Rattle.mon_packet.specs.Frames.{payload, ethernet_header, ipv4_header, pseudo_header, tcp_header, udp_header, icmp_header, tcp_sum, udp_sum, icmp_sum, transport_header, transport_size, network_headers, body, padding, rendered};
+ghost use Rattle.mon_packet.specs.Frames.{payload, ethernet_header, ipv4_header, pseudo_header, tcp_header, udp_header, icmp_header, tcp_sum, udp_sum, icmp_sum, transport_header, transport_size, network_headers, arp_packet, body, padding, rendered};
 ghost use Rattle.mon_packet.specs.Sums.{checksum};
 
 use crate::nonce::{Nonce, payload};
@@ -150,6 +150,22 @@ fn put_network(frame: &mut Vec<u8>, h: &Header, n: Nonce) -> Result<(), OutOfMem
     put_transport(frame, h, n)
 }
 
+/// A packet of ARP whose addresses of Ethernet are 0.
+#[tactic(auto, unfolding(crate::specs::Frames::arp_packet))]
+fn arp_packet(h: &Header) -> [u8; 28]
+    ensures { result ≡ arp_packet h.now }
+{
+    let mut out = [0; 28];
+    BigEndian::write_u16(&mut out, 1);
+    BigEndian::write_u16(&mut out[2..], 0x0800);
+    out[4] = 6;
+    out[5] = 4;
+    BigEndian::write_u16(&mut out[6..], u16::from(h.nw_proto));
+    BigEndian::write_u32(&mut out[14..], h.nw_src);
+    BigEndian::write_u32(&mut out[24..], h.nw_dst);
+    out
+}
+
 /// The header of Ethernet without a tag.
 #[tactic(auto, unfolding(crate::specs::Frames::ethernet_header))]
 fn untagged(h: &Header) -> [u8; 14]
@@ -203,6 +219,8 @@ fn put_body(frame: &mut Vec<u8>, h: &Header, n: Nonce) -> Result<(), OutOfMemory
 {
     if h.dl_type == 0x0800 {
         put_network(frame, h, n)?;
+    } else if h.dl_type == 0x0806 {
+        frame.extend_from_slice(&arp_packet(h))?;
     }
     frame.extend_from_slice(&payload(n))?;
     Ok(())

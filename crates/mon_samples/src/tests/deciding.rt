@@ -136,9 +136,9 @@ fn decides(alloc: Global, job: Job, first: u64, says: &str, asks: u64) -> Result
 #[test]
 fn a_stop_is_asked_once_a_case(rt: HostRuntime) -> Result<(), Fail> {
     let alloc = rt.alloc();
-    assert!(rt; decides(alloc, seen(alloc)?, 6, "probe", 1)?);
-    // Five classes, each at port 1 with one emission: what comes in at port 2 is not sent back there.
-    assert!(rt; decides(alloc, unseen(alloc)?, 6, "indistinguishable", 5)?);
+    assert!(rt; decides(alloc, seen(alloc)?, 7, "probe", 1)?);
+    // Six classes, each at port 1 with one emission: what comes in at port 2 is not sent back there.
+    assert!(rt; decides(alloc, unseen(alloc)?, 7, "indistinguishable", 6)?);
     assert!(rt; decides(alloc, unseen(alloc)?, 3, "skipped", 3)?);
     Ok(())
 }

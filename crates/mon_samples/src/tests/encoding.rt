@@ -22,12 +22,12 @@ const TO_5: Header = Header {
     ..IPV4
 };
 
-/// The rule for 10.0.0.5, which sends to port 2.
-fn to_5(alloc: Global) -> Result<Rule, OutOfMemory> {
+/// The rule for packets of this type to 10.0.0.5, which sends to port 2.
+fn to_5(alloc: Global, dl_type: u16) -> Result<Rule, OutOfMemory> {
     // Neither the type nor the address is wildcarded.
     sending(
         alloc,
-        Match::normal(0x003fffff & !0x10 & !(63 << 14), TO_5),
+        Match::normal(0x003fffff & !0x10 & !(63 << 14), Header { dl_type, ..TO_5 }),
         100,
         &[2],
     )
@@ -54,9 +54,9 @@ fn job(alloc: Global, table: Table, target: Target) -> Result<Job, OutOfMemory>
     })
 }
 
-/// The rule for 10.0.0.5 was put over one that sends all packets to these ports.
-fn put_over(alloc: Global, ports: &[u16]) -> Result<Job, OutOfMemory> {
-    let rule = to_5(alloc)?;
+/// The rule for packets of this type to 10.0.0.5 was put over one that sends all packets to these ports.
+fn put_over(alloc: Global, dl_type: u16, ports: &[u16]) -> Result<Job, OutOfMemory> {
+    let rule = to_5(alloc, dl_type)?;
     let mut table = Table::new(alloc);
     let _ = table.put(to_all(alloc, ports)?)?;
     let _ = table.put(rule.copied(alloc)?)?;
@@ -65,7 +65,7 @@ fn put_over(alloc: Global, ports: &[u16]) -> Result<Job, OutOfMemory> {
 
 /// The rule for 10.0.0.5 was cut, and a rule that sends all packets to these ports is left.
 fn cut_over(alloc: Global, ports: &[u16]) -> Result<Job, OutOfMemory> {
-    let rule = to_5(alloc)?;
+    let rule = to_5(alloc, 0x0800)?;
     let mut table = Table::new(alloc);
     let _ = table.put(to_all(alloc, ports)?)?;
     let _ = table.cut(&rule.matching, rule.priority)?;
@@ -74,7 +74,13 @@ fn cut_over(alloc: Global, ports: &[u16]) -> Result<Job, OutOfMemory> {
 
 /// The rule for 10.0.0.5 was cut, and no rule is left.
 fn cut_alone(alloc: Global) -> Result<Job, OutOfMemory> {
-    job(alloc, Table::new(alloc), Target::Cut { rule: to_5(alloc)? })
+    job(
+        alloc,
+        Table::new(alloc),
+        Target::Cut {
+            rule: to_5(alloc, 0x0800)?,
+        },
+    )
 }
 
 /// What a case shows by a model of its formula. The header's own values have to be a model that bears it.
@@ -113,14 +119,16 @@ fn count(alloc: Global, job: &Job) -> Result<(usize, usize), OutOfMemory> {
 fn cases_are_counted_as_by_hand(rt: HostRuntime) -> Result<(), Fail> {
     let alloc = rt.alloc();
     // From port 2 the rule emits nothing, so each class has port 1 alone; and frames of other types don't match it.
-    assert!(rt; count(alloc, &put_over(alloc, &[1])?)? == (5, 4));
+    assert!(rt; count(alloc, &put_over(alloc, 0x0800, &[1])?)? == (6, 4));
+    // Of the classes only that of ARP has such frames.
+    assert!(rt; count(alloc, &put_over(alloc, 0x0806, &[1])?)? == (6, 1));
     // The rule below sends to port 2 too.
-    assert!(rt; count(alloc, &put_over(alloc, &[2])?)? == (5, 0));
+    assert!(rt; count(alloc, &put_over(alloc, 0x0800, &[2])?)? == (6, 0));
     // From port 1 the rule that is left sends to port 2 and to the controller, from port 2 to the controller alone, and
     // no packet is a miss. What the cut rule did not do is what goes to the controller.
-    assert!(rt; count(alloc, &cut_over(alloc, &[2, 0xfffd])?)? == (25, 8));
+    assert!(rt; count(alloc, &cut_over(alloc, &[2, 0xfffd])?)? == (30, 8));
     // Each packet is a miss, and shows that the cut rule is gone where that matched it.
-    assert!(rt; count(alloc, &cut_alone(alloc)?)? == (10, 8));
+    assert!(rt; count(alloc, &cut_alone(alloc)?)? == (12, 8));
     Ok(())
 }
 
@@ -142,8 +150,9 @@ fn cases_stand_in_order(rt: HostRuntime) -> Result<(), Fail> {
             Class::Icmp,
             Class::OtherIpv4,
             Class::Plain,
+            Class::Arp,
         ];
-        assert!(rt; i < 25 && case.class == classes[i / 5]);
+        assert!(rt; i < 30 && case.class == classes[i / 5]);
         let (in_port, winner, emission) = first[i % 5];
         assert!(rt; case.in_port == in_port && case.winner == winner && case.emission == emission);
     }

@@ -78,6 +78,11 @@ fn classes_have_headers_of_probes(rt: HostRuntime) -> Result<(), Fail> {
     let ipv4 = |nw_proto| Header { nw_proto, ..PACKET };
     let to = |dl_dst| Header { dl_dst, ..PACKET };
     let frame = |dl_type| Header { dl_type, ..FRAME };
+    let arp = |nw_tos| Header {
+        dl_type: 0x0806,
+        nw_tos,
+        ..PACKET
+    };
     for (class, h, wanted) in [
         (Class::Tcp, ipv4(6), true),
         (Class::Tcp, PACKET, false),
@@ -91,6 +96,10 @@ fn classes_have_headers_of_probes(rt: HostRuntime) -> Result<(), Fail> {
         (Class::Plain, frame(0x05ff), false),
         (Class::Plain, frame(0x0600), true),
         (Class::Plain, frame(0x8100), false),
+        (Class::Plain, frame(0x0806), false),
+        (Class::Arp, arp(0), true),
+        (Class::Arp, arp(4), false),
+        (Class::Arp, frame(0x0800), false),
     ] {
         let asked = is_asked(rt.alloc(), &view, class, &h)?;
         assert!(rt; asked == wanted, "{class:?} {h:?}");
