@@ -31,7 +31,6 @@ of_fault faults.OutOfMemory = Passed
 -- those for a FLOW_MOD that is refused; none is for want of memory
 abbrev pub of_refusal : ModRefusal → Fate
 of_refusal refusals.TooManyActions = Refused FLOW_MOD_FAILED EPERM
-of_refusal refusals.Timeouts = Refused FLOW_MOD_FAILED EPERM
 of_refusal refusals.Reserved = Refused FLOW_MOD_FAILED EPERM
 of_refusal refusals.OverlapFlag = Refused FLOW_MOD_FAILED OVERLAP
 of_refusal refusals.TableFull = Refused FLOW_MOD_FAILED ALL_TABLES_FULL

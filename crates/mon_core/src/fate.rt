@@ -51,7 +51,7 @@ fn of_refusal(refused: ModRefusal) -> Result<Fate, OutOfMemory>
     ensures found_memory { IfOk result (λ found. refused ≢ refusals.OutOfMemory) }
 {
     let code = match refused {
-        ModRefusal::TooManyActions | ModRefusal::Timeouts | ModRefusal::Reserved => errors::EPERM,
+        ModRefusal::TooManyActions | ModRefusal::Reserved => errors::EPERM,
         ModRefusal::OverlapFlag => errors::OVERLAP,
         ModRefusal::TableFull => errors::ALL_TABLES_FULL,
         ModRefusal::OutOfMemory => return Err(OutOfMemory),

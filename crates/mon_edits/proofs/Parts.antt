@@ -10,7 +10,7 @@ use Rattle.of_msgs.specs.declared.command.Command.{Command}
 use Rattle.of_msgs.specs.declared.flow_mod.FlowMod.{FlowMod}
 use Rattle.of_msgs.specs.Absent.{NO_PORT}
 use Rattle.of_msgs.specs.FlowMods.{command_number, flow_mod_of}
-use Rattle.mon_edits.specs.Frames.{command_for, buffer_for, raw_for, part_for, frame_for, parts, IsPart}
+use Rattle.mon_edits.specs.Frames.{command_for, buffer_for, raw_for, flags_for, message_for, part_for, frame_for, parts, IsPart, IsFlagged}
 
 -- the frame of these fields
 unfoldable laid : ℕ → List ℕ → ℕ → Command → ℕ → ℕ → ℕ → ℕ → ℕ → ℕ → List ℕ → List ℕ
@@ -29,7 +29,14 @@ pub part-frame : (m part : FlowMod) (e : Edit) (first : Bool) → IsPart m e fir
 unfolding laid
 part-frame m part e first p =
     same part.xid m.xid part.spelled (spelled (edited e).matching) part.cookie m.cookie part.command (command_for e) part.idle m.idle part.hard m.hard
-    part.priority (edited e).priority part.buffer (buffer_for m first) part.out_port NO_PORT part.flags m.flags part.raw (raw_for m e)
+    part.priority (edited e).priority part.buffer (buffer_for m first) part.out_port NO_PORT part.flags (flags_for m e) part.raw (raw_for m e)
+    p.xid p.spelled p.cookie p.command p.idle p.hard p.priority p.buffer p.out_port p.flags p.raw
+
+pub flagged-frame : (m part : FlowMod) (e : Edit) → IsFlagged m (flags_for m e) part → flow_mod_of part ≡ flow_mod_of (message_for m e)
+unfolding laid
+flagged-frame m part e p =
+    same part.xid m.xid part.spelled m.spelled part.cookie m.cookie part.command m.command part.idle m.idle part.hard m.hard
+    part.priority m.priority part.buffer m.buffer part.out_port m.out_port part.flags (flags_for m e) part.raw m.raw
     p.xid p.spelled p.cookie p.command p.idle p.hard p.priority p.buffer p.out_port p.flags p.raw
 
 -- one frame more

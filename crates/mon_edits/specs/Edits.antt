@@ -11,15 +11,17 @@ use Rattle.of_msgs.specs.declared.command.Command.{Command}
 use Rattle.of_msgs.specs.declared.command.Command.TheVariants.{Add, Modify, ModifyStrict, Delete, DeleteStrict}
 use Rattle.of_msgs.specs.declared.flow_mod.FlowMod.{FlowMod}
 use Rattle.of_msgs.specs.Absent.{NO_PORT}
-use Rattle.mon_edits.specs.Naming.{identity_in, named}
+use Rattle.mon_edits.specs.Naming.{has_timeout, identity_in, named}
 
--- the rule that the message spells
+-- the rule that the message spells: it is unsure where the message has a timeout
 abbrev pub rule_in : FlowMod → Rule
-rule_in m = record { matching = m.matching; priority = m.priority; actions = m.actions }
+rule_in m = record { matching = m.matching; priority = m.priority; actions = m.actions; unsure = has_timeout m }
 
--- the entry with the message's actions: it keeps its match and its priority field
+-- the entry with the message's actions: it keeps its match and its priority field, and is unsure where the message has a
+-- timeout or the entry was. For a modification leaves the timeouts of an entry as they are, but a switch that lost the
+-- entry adds it with those of the message
 abbrev pub changed_rule : FlowMod → Rule → Rule
-changed_rule m r = record { matching = r.matching; priority = r.priority; actions = m.actions }
+changed_rule m r = record { matching = r.matching; priority = r.priority; actions = m.actions; unsure = has_timeout m || r.unsure }
 
 -- the message's actions are put into the entry
 abbrev pub changed : FlowMod → Rule → Edit

@@ -1,5 +1,5 @@
 -- What a FLOW_MOD names, and when it adds an entry (OpenFlow 1.0.0, modify flow entry message).
-use Rattle.std.specs.Prelude.{Bool, true, false, not, ◌&&◌, List, [], ◌∷◌}
+use Rattle.std.specs.Prelude.{Bool, true, false, not, ◌==◌, ◌&&◌, ◌||◌, List, [], ◌∷◌}
 use Rattle.std.specs.List.{filter}
 use Rattle.std.specs.Option.{option_to_list}
 use Rattle.mon_table.specs.declared.rule.Rule.{Rule}
@@ -17,6 +17,10 @@ is_emergency m = has_flag EMERG m.flags
 -- an entry that overlaps is an error
 abbrev pub checks_overlap : FlowMod → Bool
 checks_overlap m = has_flag CHECK_OVERLAP m.flags
+
+-- the message has a timeout, so that its entry goes by itself
+abbrev pub has_timeout : FlowMod → Bool
+has_timeout m = not (m.idle == 0) || not (m.hard == 0)
 
 -- the command is an ADD
 abbrev pub is_add : Command → Bool

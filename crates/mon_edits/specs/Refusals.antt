@@ -7,7 +7,7 @@ use Rattle.mon_table.specs.declared.edit.Edit.{Edit}
 use Rattle.mon_table.specs.Rules.{rank}
 use Rattle.of_msgs.specs.declared.flow_mod.FlowMod.{FlowMod}
 use Rattle.mon_edits.specs.declared.refusal.ModRefusal.{ModRefusal}
-use Rattle.mon_edits.specs.declared.refusal.ModRefusal.TheVariants.{TooManyActions, Timeouts, Reserved, OverlapFlag, TableFull, OutOfMemory}
+use Rattle.mon_edits.specs.declared.refusal.ModRefusal.TheVariants.{TooManyActions, Reserved, OverlapFlag, TableFull, OutOfMemory}
 use Rattle.mon_edits.specs.Naming.{checks_overlap, is_add, is_strict, is_deletion, adds_entry}
 
 -- the most bytes of actions in a message
@@ -25,10 +25,6 @@ MOST_ENTRIES = 4096
 -- no deletion, and too many actions
 abbrev pub has_too_many_actions : FlowMod → Bool
 has_too_many_actions m = not (is_deletion m.command) && nat_lt MOST_ACTIONS (length m.raw)
-
--- no deletion, and the entry would go by itself
-abbrev pub has_timeouts : FlowMod → Bool
-has_timeouts m = not (is_deletion m.command) && (not (m.idle == 0) || not (m.hard == 0))
 
 -- a catching entry overlaps
 abbrev pub is_caught : List Rule → FlowMod → Bool
@@ -61,11 +57,10 @@ is_full adds t cuts = adds && nat_le MOST_ENTRIES (length t + cuts)
 abbrev pub first_of : Bool → List Rule → List Rule → ℕ → FlowMod → Option ModRefusal
 first_of adds t catching cuts m =
     if has_too_many_actions m then Some TooManyActions
-    else (if has_timeouts m then Some Timeouts
     else (if is_reserved adds catching m then Some Reserved
     else (if is_overlapping adds t m then Some OverlapFlag
     else (if is_full adds t cuts then Some TableFull
-    else None))))
+    else None)))
 
 -- the refusal of a message over the controller's entries, the catching table, and the number of unsettled cuts
 abbrev pub refusal : List Rule → List Rule → ℕ → FlowMod → Option ModRefusal

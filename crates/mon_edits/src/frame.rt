@@ -2,17 +2,18 @@
 
 ghost use Rattle.std.specs.Prelude.{◌≡◌, true, false, IfOk};
 ghost use Rattle.std.specs.List.{AllByRecursion};
+ghost use Rattle.of_msgs.specs.FlowMods.{flow_mod_of};
 ghost use Rattle.of_match.specs.Layout.{match_of, spelled};
 ghost use Rattle.mon_edits.specs.Naming.{is_emergency, is_deletion};
-ghost use Rattle.mon_edits.specs.Frames.{is_cut, command_for, raw_for, actions_for, part_for, frame_for, parts, frames_of, IsPart};
+ghost use Rattle.mon_edits.specs.Frames.{is_cut, command_for, raw_for, actions_for, puts_unsure, with_removal, flags_for, message_for, part_for, frame_for, parts, frames_of, IsPart, IsFlagged};
 
-use crate::naming::is_add;
+use crate::naming::{has_timeout, is_add};
 use mon_header::{Actions, Match};
 use mon_list::OutOfMemory;
 use mon_table::Edit;
 use of_frame::{Frame, Frames};
 use of_match::{write_match, written_is_read};
-use of_msgs::{Command, FlowMod, NO_BUFFER, RawActions, ports, write_flow_mod};
+use of_msgs::{Command, FlowMod, NO_BUFFER, RawActions, flags, ports, write_flow_mod};
 use std::alloc::Global;
 
 /// The command that does the edit, and touches no other entry.
@@ -46,6 +47,36 @@ fn actions_for(alloc: Global, m: &FlowMod, e: &Edit) -> Result<Actions, OutOfMem
     }
 }
 
+/// Whether the edit puts an unsure rule.
+fn puts_unsure(e: &Edit) -> bool
+    ensures { result ≡ puts_unsure e.now }
+{
+    match e {
+        Edit::Put { rule, .. } => rule.unsure,
+        Edit::Cut { .. } => false,
+    }
+}
+
+/// These flags with SEND_FLOW_REM.
+fn with_removal(set: u16) -> u16
+    ensures { result ≡ with_removal set }
+{
+    if set / flags::SEND_FLOW_REM % 2 == 1 {
+        return set;
+    }
+    set + flags::SEND_FLOW_REM
+}
+
+/// The message's flags. Where the edit puts an unsure rule the switch shall say when it goes.
+fn flags_for(m: &FlowMod, e: &Edit) -> u16
+    ensures { result ≡ flags_for m.now e.now }
+{
+    if puts_unsure(e) {
+        return with_removal(m.flags);
+    }
+    m.flags
+}
+
 /// The bytes of a match, which mean it again.
 fn spelled(m: &Match) -> [u8; 40]
     ensures value { result ≡ spelled m.now }
@@ -74,7 +105,7 @@ fn part_of(alloc: Global, m: &FlowMod, e: &Edit, first: bool) -> Result<FlowMod,
         priority: entry.priority,
         buffer: if first { m.buffer } else { NO_BUFFER },
         out_port: ports::NONE,
-        flags: m.flags,
+        flags: flags_for(m, e),
         actions,
         raw,
     })
@@ -88,16 +119,48 @@ fn part_frame(alloc: Global, m: &FlowMod, e: &Edit, first: bool) -> Result<Frame
     write_flow_mod(alloc, &part)
 }
 
-/// The frame in which an edit of the message goes to the switch. An ADD goes on as it came. Every other edit is one
-/// frame with the message's xid, cookie, flags and timeouts, for the edit's entry alone: MODIFY_STRICT, DELETE_STRICT,
-/// or ADD where the message acts as one. The first frame of a message bears its buffer, the others none.
+/// The same message with these flags.
+fn flagged(alloc: Global, m: &FlowMod, flags: u16) -> Result<FlowMod, OutOfMemory>
+    ensures { IfOk result (λ part. IsFlagged m.now flags part) }
+{
+    let actions = m.actions.copied(alloc)?;
+    let raw = RawActions::of(Vec::from_slice(alloc, m.raw.items())?);
+    Ok(FlowMod {
+        xid: m.xid,
+        spelled: m.spelled,
+        matching: m.matching,
+        cookie: m.cookie,
+        command: m.command,
+        idle: m.idle,
+        hard: m.hard,
+        priority: m.priority,
+        buffer: m.buffer,
+        out_port: m.out_port,
+        flags,
+        actions,
+        raw,
+    })
+}
+
+/// The frame of the message as it came, but for the flags.
+fn flagged_frame(alloc: Global, m: &FlowMod, e: &Edit) -> Result<Frame, OutOfMemory>
+    ensures { IfOk result (λ frame. frame ≡ flow_mod_of (message_for m.now e.now)) }
+{
+    let part = flagged(alloc, m, flags_for(m, e))?;
+    write_flow_mod(alloc, &part)
+}
+
+/// The frame in which an edit of the message goes to the switch. Where it puts an unsure rule it bears SEND_FLOW_REM
+/// besides the message's flags. But for that an ADD goes on as it came. Every other edit is one frame with the message's
+/// xid, cookie, flags and timeouts, for the edit's entry alone: MODIFY_STRICT, DELETE_STRICT, or ADD where the message
+/// acts as one. The first frame of a message bears its buffer, the others none.
 pub fn frame_of(alloc: Global, m: &FlowMod, e: &Edit, first: bool) -> Result<Frame, OutOfMemory>
     requires calm { is_emergency m.now ≡ false }
     requires kind { is_cut e.now ≡ is_deletion m.now.command }
     ensures { IfOk result (λ frame. frame ≡ frame_for m.now e.now first) }
 {
     if is_add(m.command) {
-        return write_flow_mod(alloc, m);
+        return flagged_frame(alloc, m, e);
     }
     part_frame(alloc, m, e, first)
 }
@@ -118,8 +181,8 @@ fn parts(alloc: Global, m: &FlowMod, edits: &[Edit]) -> Result<Frames, OutOfMemo
     Ok(frames)
 }
 
-/// The frames in which a message that has these edits goes to the switch, in order: an ADD as the frame in which it
-/// came, and every other message as a frame for each edit, of which the first bears the message's buffer. Edits of
+/// The frames in which a message that has these edits goes to the switch, in order: an ADD without a timeout as the frame
+/// in which it came, and every other message as a frame for each edit, of which the first bears the message's buffer. Edits of
 /// `plan_mod` take entries out exactly where the command is a deletion (`edits_suit_the_command`).
 pub fn frames_of(
     alloc: Global,
@@ -131,7 +194,7 @@ pub fn frames_of(
     requires kind { AllByRecursion (λ e. is_cut e ≡ is_deletion m.now.command) edits.now }
     ensures { IfOk result (λ frames. frames ≡ frames_of m.now edits.now frame) }
 {
-    if !is_add(m.command) {
+    if !is_add(m.command) || has_timeout(m) {
         return parts(alloc, m, edits);
     }
     let mut frames = Frames::new(alloc);

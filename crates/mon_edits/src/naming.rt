@@ -3,7 +3,7 @@
 ghost use Rattle.std.specs.Prelude.{◌≡◌};
 ghost use Rattle.std.specs.Option.{option_copied};
 ghost use Rattle.mon_table.specs.Tables.{rule_of};
-ghost use Rattle.mon_edits.specs.Naming.{is_emergency, checks_overlap, is_add, is_strict, is_deletion, identity_in, is_none, covered, adds_entry};
+ghost use Rattle.mon_edits.specs.Naming.{is_emergency, checks_overlap, has_timeout, is_add, is_strict, is_deletion, identity_in, is_none, covered, adds_entry};
 
 use mon_header::covers;
 use mon_table::{Rule, Table};
@@ -22,6 +22,13 @@ pub(crate) fn checks_overlap(m: &FlowMod) -> bool
     ensures { result ≡ checks_overlap m.now }
 {
     m.flags / flags::CHECK_OVERLAP % 2 == 1
+}
+
+/// Whether the message has a timeout, so that its entry goes by itself.
+pub(crate) fn has_timeout(m: &FlowMod) -> bool
+    ensures { result ≡ has_timeout m.now }
+{
+    m.idle != 0 || m.hard != 0
 }
 
 /// Whether the command is an ADD.

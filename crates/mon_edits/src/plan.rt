@@ -6,7 +6,7 @@ ghost use Rattle.mon_edits.specs.Naming.{is_emergency, covered, at_identity};
 ghost use Rattle.mon_edits.specs.Edits.{rule_in, changed_rule, changed, or_added, is_output, has_output, is_taken, taken, added, edits_of};
 ghost use Rattle.mon_edits.specs.Refusals.{refusal, Plans};
 
-use crate::naming::entry;
+use crate::naming::{entry, has_timeout};
 use crate::refusal::{ModRefusal, refusal};
 use mon_header::{Action, Actions, covers};
 use mon_list::{Items, OutOfMemory};
@@ -17,7 +17,7 @@ use std::alloc::Global;
 /// The edits of a message, in the order in which they pass.
 pub type Edits = Items<Edit>;
 
-/// The rule that the message spells.
+/// The rule that the message spells: unsure where the message has a timeout.
 fn rule_in(alloc: Global, m: &FlowMod) -> Result<Rule, OutOfMemory>
     ensures { IfOk result (λ r. r ≡ rule_in m.now) }
 {
@@ -26,10 +26,11 @@ fn rule_in(alloc: Global, m: &FlowMod) -> Result<Rule, OutOfMemory>
         matching: m.matching,
         priority: m.priority,
         actions,
+        unsure: has_timeout(m),
     })
 }
 
-/// The message's actions put into an entry.
+/// The message's actions put into an entry. The rule is unsure where the message has a timeout, or the entry was.
 fn changed(alloc: Global, m: &FlowMod, entry: &Rule) -> Result<Edit, OutOfMemory>
     ensures { IfOk result (λ e. e ≡ changed m.now entry.now) }
 {
@@ -40,6 +41,7 @@ fn changed(alloc: Global, m: &FlowMod, entry: &Rule) -> Result<Edit, OutOfMemory
             matching: entry.matching,
             priority: entry.priority,
             actions,
+            unsure: has_timeout(m) || entry.unsure,
         },
         old: Some(old),
     })

@@ -3,7 +3,7 @@
 ghost use Rattle.std.specs.Prelude.{◌≡◌};
 ghost use Rattle.mon_edits.specs.declared.refusal.ModRefusal.TheVariants as refusals;
 ghost use Rattle.mon_edits.specs.Naming.{adds_entry};
-ghost use Rattle.mon_edits.specs.Refusals.{has_too_many_actions, has_timeouts, is_caught, is_reserved, rivals, has_rival, is_overlapping, is_full, refusal};
+ghost use Rattle.mon_edits.specs.Refusals.{has_too_many_actions, is_caught, is_reserved, rivals, has_rival, is_overlapping, is_full, refusal};
 
 use crate::naming::{adds_entry, checks_overlap, is_add, is_deletion, is_strict};
 use mon_header::{effective, overlaps};
@@ -28,9 +28,6 @@ pub enum ModRefusal {
     /// It is no deletion, and has more than 512 bytes of actions (error type FLOW_MOD_FAILED, code EPERM).
     #[error("more than 512 bytes of actions")]
     TooManyActions,
-    /// It is no deletion, and has a timeout (FLOW_MOD_FAILED, EPERM).
-    #[error("a timeout")]
-    Timeouts,
     /// It would reach a catching entry: it is an ADD, a strict command, or a MODIFY that names nothing, its effective
     /// priority is 65534 or more, and its match overlaps that of a catching entry (FLOW_MOD_FAILED, EPERM).
     #[error("the match and priority are reserved")]
@@ -59,13 +56,6 @@ fn has_too_many_actions(m: &FlowMod) -> bool
     ensures { result ≡ has_too_many_actions m.now }
 {
     !is_deletion(m.command) && m.raw.items().len() > MOST_ACTIONS
-}
-
-/// Whether it is no deletion, and the entry would go by itself.
-fn has_timeouts(m: &FlowMod) -> bool
-    ensures { result ≡ has_timeouts m.now }
-{
-    !is_deletion(m.command) && (m.idle != 0 || m.hard != 0)
 }
 
 /// Whether a catching entry overlaps.
@@ -129,9 +119,6 @@ pub(crate) fn refusal(table: &Table, catching: &Table, cuts: u32, m: &FlowMod) -
 {
     if has_too_many_actions(m) {
         return Some(ModRefusal::TooManyActions);
-    }
-    if has_timeouts(m) {
-        return Some(ModRefusal::Timeouts);
     }
     let adds = adds_entry(table, m);
     if is_reserved(adds, catching, m) {

@@ -17,6 +17,11 @@ const ADD: &str = "010e005000000011
     003220ef 0000 000000000000 000000000000 0000 00 00 0800 00 00 0000 00000000 0a000000 0000 0000
     0000000000000000 0000 0000 0000 0064 ffffffff ffff 0000 0000000800020000";
 
+/// The same with a hard timeout.
+const TIMED: &str = "010e005000000011
+    003220ef 0000 000000000000 000000000000 0000 00 00 0800 00 00 0000 00000000 0a000000 0000 0000
+    0000000000000000 0000 0000 000a 0064 ffffffff ffff 0000 0000000800020000";
+
 /// All IPv4, priority 50, to the queue 7 of port 2.
 const QUEUED: &str = "010e005800000012
     003820ef 0000 000000000000 000000000000 0000 00 00 0800 00 00 0000 00000000 00000000 0000 0000
@@ -78,6 +83,7 @@ fn table(alloc: Global, text: &str) -> Result<Table, Fail> {
             matching: m.matching,
             priority: m.priority,
             actions: m.actions,
+            unsure: m.idle != 0 || m.hard != 0,
         })?;
     }
     Ok(table)
@@ -143,6 +149,26 @@ fn edits_pass_one_by_one(rt: HostRuntime) -> Result<(), Fail> {
             00000000 0001 020000000001 020000000002 0064 00 00 0800 00 11 0000 0a000001 0a000002 0001 0002
             0102030405060708 0002 0000 0000 0009 00000102 ffff 0001 0000000800040000",
         ),
+        // An ADD with an idle timeout asks to be told when its entry goes, and is else as it came.
+        (
+            ADD,
+            "010e005000000027
+            ff3220ef 0001 000000000002 000000000003 0004 05 06 0800 00 00 0708 00000009 0a0000ff 0000 0000
+            0102030405060708 0000 000a 0000 0064 00000102 0003 0008 ffff000800000000",
+            "010e005000000027
+            ff3220ef 0001 000000000002 000000000003 0004 05 06 0800 00 00 0708 00000009 0a0000ff 0000 0000
+            0102030405060708 0000 000a 0000 0064 00000102 0003 0009 ffff000800000000",
+        ),
+        // A MODIFY of an entry that may vanish asks so too.
+        (
+            TIMED,
+            "010e005000000028
+            003820ff 0000 000000000000 000000000000 0000 00 00 0000 00 00 0000 00000000 00000000 0000 0000
+            0000000000000000 0001 0000 0000 8000 ffffffff ffff 0000 0000000800040000",
+            "010e005000000028
+            003220ef 0000 000000000000 000000000000 0000 00 00 0800 00 00 0000 00000000 0a000000 0000 0000
+            0000000000000000 0002 0000 0000 0064 ffffffff ffff 0001 0000000800040000",
+        ),
         // A MODIFY that names nothing.
         (
             ADD,
@@ -196,7 +222,7 @@ fn edits_pass_one_by_one(rt: HostRuntime) -> Result<(), Fail> {
     Ok(())
 }
 
-/// An ADD of so many outputs that its actions have 520 bytes. It has a timeout, too.
+/// An ADD of so many outputs that its actions have 520 bytes. It is at a reserved priority, too.
 fn crowded(alloc: Global) -> Result<FlowMod, Fail> {
     let mut text = bytes(
         alloc,
@@ -217,10 +243,6 @@ fn the_first_refusal_is_said(rt: HostRuntime) -> Result<(), Fail> {
     let alloc = rt.alloc();
     let table = table(alloc, FROM)?;
     let catching = self::table(alloc, CATCHING)?;
-    // A timeout, at a reserved priority.
-    let timed = "010e004800000032
-        003820ff 0000 000000000000 000000000000 0000 00 00 0000 00 00 0000 00000000 00000000 0000 0000
-        0000000000000000 0000 0000 000a ffff ffffffff ffff 0000";
     // All at a reserved priority, with CHECK_OVERLAP.
     let reserved = "010e004800000033
         003820ff 0000 000000000000 000000000000 0000 00 00 0000 00 00 0000 00000000 00000000 0000 0000
@@ -242,7 +264,6 @@ fn the_first_refusal_is_said(rt: HostRuntime) -> Result<(), Fail> {
         003818ef 0000 000000000000 000000000000 0000 00 00 0800 00 00 0000 0a000000 00000000 0000 0000
         0000000000000000 0000 0000 0000 0064 ffffffff ffff 0002 0000000800020000";
     let cases = [
-        (timed, 4096, Some(ModRefusal::Timeouts)),
         (reserved, 4096, Some(ModRefusal::Reserved)),
         (strict, 0, Some(ModRefusal::Reserved)),
         (loose, 4096, None),
@@ -250,6 +271,8 @@ fn the_first_refusal_is_said(rt: HostRuntime) -> Result<(), Fail> {
         (equal, 0, Some(ModRefusal::OverlapFlag)),
         (ADD, 4095, Some(ModRefusal::TableFull)),
         (ADD, 4094, None),
+        // A timeout is no reason.
+        (TIMED, 4094, None),
         // It replaces an entry.
         (FROM, 4096, None),
     ];

@@ -20,7 +20,7 @@ use Rattle.mon_literals.proofs.Patterns.{pattern_true}
 use Rattle.mon_literals.proofs.Probes.{class_true}
 use Rattle.mon_literals.proofs.Values.{borne_is_borne}
 use Rattle.mon_encode.specs.declared.case.Case.{Case}
-use Rattle.mon_encode.specs.Cases.{IsCaseOf, BelongsTo, HasWinner, shape_of, given}
+use Rattle.mon_encode.specs.Cases.{IsCaseOf, BelongsTo, HasWinner, shape_of, given, present}
 use Rattle.mon_encode.specs.Formulas.{clauses_of, decoded, encoded}
 use Rattle.mon_encode.proofs.Truth.{Denies}
 use Rattle.mon_encode.proofs.Exact.{Literals}
@@ -56,7 +56,7 @@ pub encoded-satisfies : (j : Task) (c : Case) (h : Header) (e : Emission) → c.
 encoded-satisfies j c h e small k i y o =
     let v = values_of (encoded j h) in
     let l = literals v h (encoded-bears-header j c h e o) in
-    showing-satisfies v h e j c small l k i (encoded-helped j h (undone-is v h j k l).read) y o
+    showing-satisfies v h e j c small l k i (encoded-helped j h (undone-is v h j k l).reads) y o
 
 got-within : (t : List Rule) (n : ℕ) (r : Rule) → slice_get t n ≡ Some r → n < length t
 got-within [] n r g = absurd (let z : ⊥ = cc in z)
@@ -64,11 +64,11 @@ got-within (x ∷ t) zero r g = omega arith
 got-within (x ∷ t) (suc n) r g = let rest = got-within t n r g in omega arith
 
 -- a case's winner stands in the table
-pub winner-within : (j : Task) (c : Case) → Kept j → IsCaseOf j c → HasWinner j.table c.winner
+pub winner-within : (j : Task) (c : Case) → Kept j → IsCaseOf j c → HasWinner (present j) c.winner
 winner-within j c k i = ⊎_elim
-    (λ (n : c.winner ≡ None). subst (HasWinner j.table) (sym n) tt)
-    (λ (f : Founded j.table c). subst (HasWinner j.table) (sym f.winner) (got-within j.table f.place f.rule f.rule_there))
-    (case-fact j c k.table.order k.job.there i).founded
+    (λ (n : c.winner ≡ None). subst (HasWinner (present j)) (sym n) tt)
+    (λ (f : Founded (present j) c). subst (HasWinner (present j)) (sym f.winner) (got-within (present j) f.place f.rule f.rule_there))
+    (case-fact j c k.table k.job.there i).founded
 
 -- the header of a model is of the case's class and port, and bears the view's tag
 pub shows-meets : (j : Task) (c : Case) (h : Header) (e : Emission) → IsView j.view → separates j.view j.table j.target h e ≡ true → BelongsTo j c h e → Meets c.class c.in_port h
@@ -83,9 +83,9 @@ model-meets j c v small k i f =
     let s = decoded-shows j c v small k i f in
     shows-meets j c (decoded j c v).0 (decoded j c v).1 k.view s.0 s.1
 
-pub decoded-is : (j : Task) (c : Case) (v : ℕ → Bool) (h : Header) (e : Emission) → h ≡ borne v → e ≡ (given (shape_of j.table c) h).0 → (h, e) ≡ decoded j c v
+pub decoded-is : (j : Task) (c : Case) (v : ℕ → Bool) (h : Header) (e : Emission) → h ≡ borne v → e ≡ (given (shape_of (present j) c) h).0 → (h, e) ≡ decoded j c v
 unfolding decoded
-decoded-is j c v h e a b = ap₂ (λ (x : Header) (y : Emission). (x, y)) a (b ∙ ap (λ (x : Header). (given (shape_of j.table c) x).0) a)
+decoded-is j c v h e a b = ap₂ (λ (x : Header) (y : Emission). (x, y)) a (b ∙ ap (λ (x : Header). (given (shape_of (present j) c) x).0) a)
 
 -- a winner's place is in the table
 pub placed-within : (t : List Rule) (winner : Option ℕ) (place : ℕ) → winner ≡ Some place → HasWinner t winner → place < length t

@@ -1,15 +1,15 @@
 -- What a job's cases are: each of them has a link, a winner that stands in the table and an emission of it, and each such
 -- one is a case.
-use Rattle.std.proofs.Common.{◌≡◌, ℕ, zero, suc, ◌+◌, true, List, [], ◌∷◌, Option, Some, None, refl, sym, ap, subst, ◌∙◌, arith, inl, inr, ◌⊎◌, ⊎_elim, drop, drop-cons, append_assoc, add-one, length, ◌<◌, ◌++◌}
+use Rattle.std.proofs.Common.{◌≡◌, ℕ, zero, suc, ◌+◌, true, false, List, [], ◌∷◌, Option, Some, None, refl, sym, ap, subst, ◌∙◌, arith, inl, inr, ◌⊎◌, ⊎_elim, drop, drop-cons, append_assoc, add-one, length, ◌<◌, ◌++◌}
 use Rattle.std.specs.Prelude.{◌==◌}
 use Rattle.std.specs.List.{slice_get, Contains}
 use Rattle.std.proofs.lemmas.List.Elements.{Contains-append_left, Contains-append_right, Contains-append_cases}
-use Rattle.std.proofs.lemmas.Bool.{or_cases, or_left, or_right, false≢true, eqb-true, eq-eqb}
+use Rattle.std.proofs.lemmas.Bool.{cases_Bool, or_cases, or_left, or_right, false≢true, eqb-true, eq-eqb}
 use Rattle.mon_header.specs.declared.class.Class.{Class}
 use Rattle.mon_header.specs.declared.class.Class.TheVariants.{Tcp, Udp, Icmp, OtherIpv4, Plain, Arp}
 use Rattle.mon_table.specs.declared.rule.Rule.{Rule}
 use Rattle.mon_table.specs.Rules.{identity_of}
-use Rattle.mon_table.specs.Tables.{InOrder}
+use Rattle.mon_table.specs.Tables.{IsTable}
 use Rattle.mon_table.specs.Places.{place_of}
 use Rattle.mon_outcome.specs.declared.shape.Shape.{Shape}
 use Rattle.mon_outcome.specs.Shaping.{shapes_of}
@@ -19,8 +19,11 @@ use Rattle.mon_shows.specs.declared.target.Target.TheVariants.{Put, Cut, Watch}
 use Rattle.mon_shows.specs.Views.{has_link}
 use Rattle.mon_job.specs.Jobs.{Task, IsIn}
 use Rattle.mon_encode.specs.declared.case.Case.{Case}
-use Rattle.mon_encode.specs.Cases.{by_position, of_rule, of_any, by_winner, by_port, by_class, all_classes, cases_of, IsCaseOf}
-use Rattle.mon_encode.proofs.Updating.{stands-there}
+use Rattle.mon_encode.specs.Cases.{by_position, of_rule, of_sure, of_any, by_winner, by_port, by_class, all_classes, cases_of, IsCaseOf, present}
+use Rattle.mon_header.specs.Matching.{IsNormal}
+use Rattle.mon_table.proofs.Listing.{has-all}
+use Rattle.mon_shows.specs.Separation.{made_unsure, with_update}
+use Rattle.mon_encode.proofs.Updating.{present-there}
 
 abbrev pub case : Class → ℕ → Option ℕ → ℕ → Case
 case class in_port winner emission = record { class = class; in_port = in_port; winner = winner; emission = emission }
@@ -77,6 +80,7 @@ pub record Founded (t : List Rule) (c : Case) : Type 0 where
   pub shape : Shape
   pub winner : c.winner ≡ Some place
   pub rule_there : slice_get t place ≡ Some rule
+  pub sure : rule.unsure ≡ false
   pub shape_there : slice_get (shapes_of rule.actions c.class c.in_port) c.emission ≡ Some shape
 
 -- what is so of each case
@@ -85,8 +89,8 @@ pub record Founding (t : List Rule) (class : Class) (in_port : ℕ) (c : Case) :
   pub came_in : c.in_port ≡ in_port
   pub founded : (c.winner ≡ None) ⊎ Founded t c
 
-rule-founded : (t : List Rule) (class : Class) (in_port place : ℕ) (r : Rule) (c : Case) → slice_get t place ≡ Some r → Contains (of_rule class in_port place r) c → Founding t class in_port c
-rule-founded t class in_port place r c g i =
+rule-founded : (t : List Rule) (class : Class) (in_port place : ℕ) (r : Rule) (c : Case) → slice_get t place ≡ Some r → r.unsure ≡ false → Contains (of_rule class in_port place r) c → Founding t class in_port c
+rule-founded t class in_port place r c g u i =
     let a = at-position class in_port (Some place) 0 (shapes_of r.actions class in_port) c i in
     let n : 0 + a.index ≡ a.index = omega arith in
     let founding : Founding t class in_port (case class in_port (Some place) (0 + a.index)) = record {
@@ -98,10 +102,18 @@ rule-founded t class in_port place r c g i =
         shape = a.shape;
         winner = refl;
         rule_there = g;
+        sure = u;
         shape_there = ap (slice_get (shapes_of r.actions class in_port)) n ∙ a.there;
       });
     } in
     subst (Founding t class in_port) a.is founding
+
+-- the cases of an unsure rule are none
+sure-cases : (class : Class) (in_port place : ℕ) (r : Rule) → r.unsure ≡ false → of_sure class in_port place r ≡ of_rule class in_port place r
+sure-cases class in_port place r u = rw u refl
+
+unsure-cases : (class : Class) (in_port place : ℕ) (r : Rule) → r.unsure ≡ true → of_sure class in_port place r ≡ []
+unsure-cases class in_port place r u = rw u refl
 
 any-founded : (whole : List Rule) (class : Class) (in_port from : ℕ) (t : List Rule) (c : Case) → ((k : ℕ) (r : Rule) → slice_get t k ≡ Some r → slice_get whole (from + k) ≡ Some r)
     → Contains (of_any class in_port from t) c → Founding whole class in_port c
@@ -112,19 +124,27 @@ any-founded whole class in_port from [] c f i = ⊎_elim
     (λ (j : Contains [] c). absurd (none-in c j))
     (first-or-later (case class in_port None 0) [] c i)
 any-founded whole class in_port from (r ∷ t) c f i = ⊎_elim
-    (λ (j : Contains (of_rule class in_port from r) c).
+    (λ (j : Contains (of_sure class in_port from r) c). ⊎_elim
+    (λ (u : r.unsure ≡ true). absurd (none-in c (subst (λ (cs : List Case). Contains cs c) (unsure-cases class in_port from r u) j)))
+    (λ (u : r.unsure ≡ false).
     let n : from + 0 ≡ from = omega arith in
-    rule-founded whole class in_port from r c (ap (slice_get whole) (sym n) ∙ f 0 r refl) j)
+    rule-founded whole class in_port from r c (ap (slice_get whole) (sym n) ∙ f 0 r refl) u
+    (subst (λ (cs : List Case). Contains cs c) (sure-cases class in_port from r u) j))
+    (cases_Bool r.unsure))
     (λ (j : Contains (of_any class in_port (suc from) t) c).
     any-founded whole class in_port (suc from) t c
     (λ k s g. let n : suc from + k ≡ from + suc k = omega arith in ap (slice_get whole) n ∙ f (suc k) s g) j)
-    (Contains-append_cases (of_rule class in_port from r) (of_any class in_port (suc from) t) c i)
+    (Contains-append_cases (of_sure class in_port from r) (of_any class in_port (suc from) t) c i)
 
-winner-founded : (t : List Rule) (x : Target) (class : Class) (in_port : ℕ) (c : Case) → InOrder t → IsIn t x → Contains (by_winner t x class in_port) c → Founding t class in_port c
-winner-founded t (Put r old) class in_port c o has i = rule-founded t class in_port (place_of (identity_of r) t) r c (stands-there t r o has) i
+winner-founded : (t : List Rule) (x : Target) (class : Class) (in_port : ℕ) (c : Case) → IsTable t → IsIn t x → Contains (by_winner t x class in_port) c → Founding (with_update t x) class in_port c
+winner-founded t (Put r old) class in_port c o has i =
+    rule-founded (with_update t (Put r old)) class in_port (place_of (identity_of r) t) (made_unsure false r) c
+    (present-there t (made_unsure false r) o (has-all (λ s. IsNormal s.matching) t r o.normal has)) refl i
 winner-founded t (Cut r) class in_port c o has i =
     any-founded t class in_port 0 t c (λ k s g. let n : 0 + k ≡ k = omega arith in ap (slice_get t) n ∙ g) i
-winner-founded t (Watch r) class in_port c o has i = rule-founded t class in_port (place_of (identity_of r) t) r c (stands-there t r o has) i
+winner-founded t (Watch r) class in_port c o has i =
+    rule-founded (with_update t (Watch r)) class in_port (place_of (identity_of r) t) (made_unsure false r) c
+    (present-there t (made_unsure false r) o (has-all (λ s. IsNormal s.matching) t r o.normal has)) refl i
 
 -- the port is a link's
 pub record Linked (t : List Rule) (links : List Near) (class : Class) (c : Case) : Type 0 where
@@ -132,7 +152,7 @@ pub record Linked (t : List Rule) (links : List Near) (class : Class) (c : Case)
   pub link : has_link port links ≡ true
   pub founding : Founding t class port c
 
-port-linked : (t : List Rule) (x : Target) (class : Class) (links : List Near) (c : Case) → InOrder t → IsIn t x → Contains (by_port t x class links) c → Linked t links class c
+port-linked : (t : List Rule) (x : Target) (class : Class) (links : List Near) (c : Case) → IsTable t → IsIn t x → Contains (by_port t x class links) c → Linked (with_update t x) links class c
 port-linked t x class [] c o has i = absurd (none-in c i)
 port-linked t x class (near ∷ links) c o has i = ⊎_elim
     (λ (j : Contains (by_winner t x class near.port) c).
@@ -150,14 +170,14 @@ pub record Fact (t : List Rule) (links : List Near) (c : Case) : Type 0 where
 linked-fact : (t : List Rule) (links : List Near) (class : Class) (c : Case) → Linked t links class c → Fact t links c
 linked-fact t links class c l = record { link = ap (λ (n : ℕ). has_link n links) l.founding.came_in ∙ l.link; founded = l.founding.founded }
 
-class-fact : (t : List Rule) (x : Target) (links : List Near) (classes : List Class) (c : Case) → InOrder t → IsIn t x → Contains (by_class t x links classes) c → Fact t links c
+class-fact : (t : List Rule) (x : Target) (links : List Near) (classes : List Class) (c : Case) → IsTable t → IsIn t x → Contains (by_class t x links classes) c → Fact (with_update t x) links c
 class-fact t x links [] c o has i = absurd (none-in c i)
 class-fact t x links (class ∷ classes) c o has i = ⊎_elim
-    (λ (j : Contains (by_port t x class links) c). linked-fact t links class c (port-linked t x class links c o has j))
+    (λ (j : Contains (by_port t x class links) c). linked-fact (with_update t x) links class c (port-linked t x class links c o has j))
     (λ (j : Contains (by_class t x links classes) c). class-fact t x links classes c o has j)
     (Contains-append_cases (by_port t x class links) (by_class t x links classes) c i)
 
-pub case-fact : (j : Task) (c : Case) → InOrder j.table → IsIn j.table j.target → IsCaseOf j c → Fact j.table j.view.links c
+pub case-fact : (j : Task) (c : Case) → IsTable j.table → IsIn j.table j.target → IsCaseOf j c → Fact (present j) j.view.links c
 unfolding cases_of
 case-fact j c o has i = class-fact j.table j.target j.view.links all_classes c o has i
 
@@ -170,27 +190,28 @@ rule-in class in_port place r position shape g =
 
 pub miss-in : (class : Class) (in_port from : ℕ) (t : List Rule) → Contains (of_any class in_port from t) (case class in_port None 0)
 miss-in class in_port from [] = first-in (case class in_port None 0) [] (case class in_port None 0) refl
-miss-in class in_port from (r ∷ t) = Contains-append_right (of_rule class in_port from r) (of_any class in_port (suc from) t) (case class in_port None 0) (miss-in class in_port (suc from) t)
+miss-in class in_port from (r ∷ t) = Contains-append_right (of_sure class in_port from r) (of_any class in_port (suc from) t) (case class in_port None 0) (miss-in class in_port (suc from) t)
 
-any-in : (class : Class) (in_port from : ℕ) (t : List Rule) (k : ℕ) (r : Rule) (position : ℕ) (shape : Shape) → slice_get t k ≡ Some r → slice_get (shapes_of r.actions class in_port) position ≡ Some shape
+any-in : (class : Class) (in_port from : ℕ) (t : List Rule) (k : ℕ) (r : Rule) (position : ℕ) (shape : Shape) → r.unsure ≡ false → slice_get t k ≡ Some r → slice_get (shapes_of r.actions class in_port) position ≡ Some shape
     → Contains (of_any class in_port from t) (case class in_port (Some (from + k)) position)
-any-in class in_port from [] k r position shape g s = absurd (let z : ⊥ = cc in z)
-any-in class in_port from (x ∷ t) zero r position shape g s =
+any-in class in_port from [] k r position shape u g s = absurd (let z : ⊥ = cc in z)
+any-in class in_port from (x ∷ t) zero r position shape u g s =
     let same : x ≡ r = cc in
     let n : from ≡ from + 0 = omega arith in
-    Contains-append_left (of_rule class in_port from x) (of_any class in_port (suc from) t) (case class in_port (Some (from + 0)) position)
-    (subst (λ (m : ℕ). Contains (of_rule class in_port from x) (case class in_port (Some m) position)) n
-    (rule-in class in_port from x position shape (ap (λ (y : Rule). slice_get (shapes_of y.actions class in_port) position) same ∙ s)))
-any-in class in_port from (x ∷ t) (suc k) r position shape g s =
+    Contains-append_left (of_sure class in_port from x) (of_any class in_port (suc from) t) (case class in_port (Some (from + 0)) position)
+    (subst (λ (m : ℕ). Contains (of_sure class in_port from x) (case class in_port (Some m) position)) n
+    (subst (λ (cs : List Case). Contains cs (case class in_port (Some from) position)) (sym (sure-cases class in_port from x (ap (λ (y : Rule). y.unsure) same ∙ u)))
+    (rule-in class in_port from x position shape (ap (λ (y : Rule). slice_get (shapes_of y.actions class in_port) position) same ∙ s))))
+any-in class in_port from (x ∷ t) (suc k) r position shape u g s =
     let n : suc from + k ≡ from + suc k = omega arith in
-    Contains-append_right (of_rule class in_port from x) (of_any class in_port (suc from) t) (case class in_port (Some (from + suc k)) position)
-    (subst (λ (m : ℕ). Contains (of_any class in_port (suc from) t) (case class in_port (Some m) position)) n (any-in class in_port (suc from) t k r position shape g s))
+    Contains-append_right (of_sure class in_port from x) (of_any class in_port (suc from) t) (case class in_port (Some (from + suc k)) position)
+    (subst (λ (m : ℕ). Contains (of_any class in_port (suc from) t) (case class in_port (Some m) position)) n (any-in class in_port (suc from) t k r position shape u g s))
 
-pub cut-in : (class : Class) (in_port : ℕ) (t : List Rule) (k : ℕ) (r : Rule) (position : ℕ) (shape : Shape) → slice_get t k ≡ Some r → slice_get (shapes_of r.actions class in_port) position ≡ Some shape
+pub cut-in : (class : Class) (in_port : ℕ) (t : List Rule) (k : ℕ) (r : Rule) (position : ℕ) (shape : Shape) → r.unsure ≡ false → slice_get t k ≡ Some r → slice_get (shapes_of r.actions class in_port) position ≡ Some shape
     → Contains (of_any class in_port 0 t) (case class in_port (Some k) position)
-cut-in class in_port t k r position shape g s =
+cut-in class in_port t k r position shape u g s =
     let n : 0 + k ≡ k = omega arith in
-    subst (λ (m : ℕ). Contains (of_any class in_port 0 t) (case class in_port (Some m) position)) n (any-in class in_port 0 t k r position shape g s)
+    subst (λ (m : ℕ). Contains (of_any class in_port 0 t) (case class in_port (Some m) position)) n (any-in class in_port 0 t k r position shape u g s)
 
 port-in : (t : List Rule) (x : Target) (class : Class) (links : List Near) (in_port : ℕ) (c : Case) → has_link in_port links ≡ true → Contains (by_winner t x class in_port) c
     → Contains (by_port t x class links) c

@@ -1,5 +1,5 @@
 -- Each header and emission that separate belong to a case.
-use Rattle.std.proofs.Common.{◌≡◌, ◌≢◌, ℕ, suc, ◌≤◌, true, false, List, [], ◌∷◌, Option, Some, None, refl, sym, ap, subst, ◌∙◌, arith, inl, ⊎_elim}
+use Rattle.std.proofs.Common.{◌≡◌, ◌≢◌, ℕ, suc, ◌≤◌, true, false, not, List, [], ◌∷◌, Option, Some, None, refl, sym, ap, subst, ◌∙◌, arith, inl, ⊎_elim}
 use Rattle.std.specs.Prelude.{◌==◌}
 use Rattle.std.specs.List.{slice_get, Contains}
 use Rattle.std.specs.Option.{option_to_list}
@@ -12,7 +12,7 @@ use Rattle.mon_header.proofs.Classing.{some-class}
 use Rattle.mon_table.specs.declared.rule.Rule.{Rule}
 use Rattle.mon_table.specs.Rules.{identity_of}
 use Rattle.mon_table.specs.Places.{place_of}
-use Rattle.mon_table.specs.Winners.{wins, winners}
+use Rattle.mon_table.specs.Winners.{wins, winners, may_miss}
 use Rattle.mon_table.proofs.Members.{has-filter}
 use Rattle.mon_outcome.specs.declared.emission.Emission.{Emission}
 use Rattle.mon_outcome.specs.declared.emission.Emission.TheVariants.{Miss}
@@ -23,26 +23,32 @@ use Rattle.mon_outcome.proofs.Equality.{emission-same}
 use Rattle.mon_shows.specs.declared.target.Target.{Target}
 use Rattle.mon_shows.specs.declared.target.Target.TheVariants.{Put, Cut, Watch}
 use Rattle.mon_shows.specs.Views.{Viewing, IsView, has_link, craftable, caught}
-use Rattle.mon_shows.specs.Separation.{without_update, is_miss, is_sure, is_possible, separates}
+use Rattle.mon_shows.specs.Separation.{with_update, without_update, is_miss, is_certain, must_show, may_show, separates}
+use Rattle.mon_header.specs.Matching.{IsNormal}
+use Rattle.mon_table.specs.declared.edit.Edit.TheVariants as edit
+use Rattle.mon_table.specs.Edits.{after}
+use Rattle.mon_table.specs.Tables.{InOrder}
+use Rattle.mon_table.proofs.Listing.{has-all}
+use Rattle.mon_encode.proofs.Winners.{lone-sure}
 use Rattle.mon_job.specs.Jobs.{Task, updated, IsIn, Kept}
 use Rattle.mon_encode.specs.declared.case.Case.{Case}
-use Rattle.mon_encode.specs.Cases.{by_winner, IsCaseOf, shape_at, given, BelongsTo}
+use Rattle.mon_encode.specs.Cases.{by_winner, IsCaseOf, shape_at, given, present, BelongsTo}
 use Rattle.mon_encode.proofs.Emitting.{Meets, must-back}
-use Rattle.mon_encode.proofs.Updating.{stands-there, own-winner}
+use Rattle.mon_encode.proofs.Updating.{own_rule, own-winner, present-there}
 use Rattle.mon_encode.proofs.Casing.{case, rule-in, miss-in, cut-in, case-in}
 
 -- the parts of separation
-pub record Separated (v : Viewing) (t u : List Rule) (h : Header) (e : Emission) : Type 0 where
+pub record Separated (v : Viewing) (p u : List Rule) (h : Header) (e : Emission) : Type 0 where
   pub crafted : craftable v h ≡ true
-  pub sure : is_sure (winners t h) h e ≡ true
+  pub sure : must_show p h e ≡ true
   pub back : caught v e ≡ true
-  pub impossible : is_possible (winners u h) h e ≡ false
+  pub impossible : may_show u h e ≡ false
 
-pub separated : (v : Viewing) (t : List Rule) (x : Target) (h : Header) (e : Emission) → separates v t x h e ≡ true → Separated v t (without_update t x) h e
+pub separated : (v : Viewing) (t : List Rule) (x : Target) (h : Header) (e : Emission) → separates v t x h e ≡ true → Separated v (with_update t x) (without_update t x) h e
 unfolding separates
 separated v t x h e s =
     let a = and_parts (craftable v h) _ s in
-    let b = and_parts (is_sure (winners t h) h e) _ a.1 in
+    let b = and_parts (must_show (with_update t x) h e) _ a.1 in
     let c = and_parts (caught v e) _ b.1 in
     record { crafted = a.0; sure = b.0; back = c.0; impossible = not-true _ c.1 }
 
@@ -71,16 +77,16 @@ Covers j h e = (c : Case) × IsCaseOf j c × BelongsTo j c h e
 
 -- a rule that is the only winner
 record Lone (j : Task) (c : Class) (h : Header) (e : Emission) (place : ℕ) (r : Rule) : Type 0 where
-  there : slice_get j.table place ≡ Some r
-  lone : winners j.table h ≡ r ∷ []
-  must_show : must r.actions h e ≡ true
+  there : slice_get (present j) place ≡ Some r
+  lone : winners (present j) h ≡ r ∷ []
+  must_emit : must r.actions h e ≡ true
   inside : (position : ℕ) (shape : Shape) → slice_get (shapes_of r.actions c h.in_port) position ≡ Some shape
       → Contains (by_winner j.table j.target c h.in_port) (case c h.in_port (Some place) position)
 
 rule-covers : (j : Task) (h : Header) (e : Emission) (place : ℕ) (r : Rule) (f : Crafted j.view h) → IsView j.view → Lone j f.class h e place r → Covers j h e
 rule-covers j h e place r f i l =
     let meets : Meets f.class h.in_port h = record { is_class = f.is_class; came_in = refl; has_tag = has-tag j.view h i f.tag } in
-    let m = (must-back r.actions f.class h.in_port h e meets l.must_show).1 in (
+    let m = (must-back r.actions f.class h.in_port h e meets l.must_emit).1 in (
       case f.class h.in_port (Some place) m.position,
       case-in j f.class h.in_port (case f.class h.in_port (Some place) m.position) f.link (l.inside m.position m.shape m.there),
       record {
@@ -94,7 +100,7 @@ rule-covers j h e place r f i l =
     )
 
 -- no winner
-miss-covers : (j : Task) (h : Header) (e : Emission) (r : Rule) (f : Crafted j.view h) → j.target ≡ Cut r → winners j.table h ≡ [] → is_miss h e ≡ true → Covers j h e
+miss-covers : (j : Task) (h : Header) (e : Emission) (r : Rule) (f : Crafted j.view h) → j.target ≡ Cut r → winners (present j) h ≡ [] → is_miss h e ≡ true → Covers j h e
 miss-covers j h e r f t n y =
     let miss : e ≡ Miss h = (emission-same e (Miss h)).0 y in (
       case f.class h.in_port None 0,
@@ -116,44 +122,51 @@ standing (x ∷ t) r i = ⊎_elim
     i
 
 -- where a rule was put or is watched
-own-covers : (j : Task) (h : Header) (e : Emission) (f : Crafted j.view h) → Kept j → Has j.table (updated j.target) → Separated j.view j.table (without_update j.table j.target) h e
+own-covers : (j : Task) (h : Header) (e : Emission) (f : Crafted j.view h) → Kept j → present j ≡ after j.table (edit.Put (own_rule j.target) None) → Has j.table (updated j.target) → Separated j.view (present j) (without_update j.table j.target) h e
     → ((position : ℕ) (shape : Shape) → slice_get (shapes_of (updated j.target).actions f.class h.in_port) position ≡ Some shape
     → Contains (by_winner j.table j.target f.class h.in_port) (case f.class h.in_port (Some (place_of (identity_of (updated j.target)) j.table)) position))
     → Covers j h e
-own-covers j h e f k has s inside =
-    let w = updated j.target in
-    let lone : winners j.table h ≡ w ∷ [] = own-winner j.table j.target h e k.table k.back_normal k.job.own has s.sure s.impossible in
+own-covers j h e f k is has s inside =
+    let w = own_rule j.target in
+    let n : IsNormal w.matching = has-all (λ r. IsNormal r.matching) j.table (updated j.target) k.table.normal has in
+    let lone : winners (present j) h ≡ w ∷ [] = own-winner j.table j.target h e k.table n k.back_normal k.job.own is s.sure s.impossible in
+    let y : is_certain (w ∷ []) (may_miss (present j) h) h e ≡ true = subst (λ (ws : List Rule). is_certain ws (may_miss (present j) h) h e ≡ true) lone s.sure in
     rule-covers j h e (place_of (identity_of w) j.table) w f k.view (record {
-      there = stands-there j.table w k.table.order has;
+      there = ap (λ (t : List Rule). slice_get t (place_of (identity_of w) j.table)) is ∙ present-there j.table w k.table n;
       lone = lone;
-      must_show = subst (λ (ws : List Rule). is_sure ws h e ≡ true) lone s.sure;
+      must_emit = (and_parts (not (may_miss (present j) h)) _ y).1;
       inside = inside;
     })
 
 -- where a rule was cut
-cut-covers : (j : Task) (h : Header) (e : Emission) (r : Rule) (ws : List Rule) (f : Crafted j.view h) → IsView j.view → j.target ≡ Cut r → winners j.table h ≡ ws → is_sure ws h e ≡ true → Covers j h e
-cut-covers j h e r [] f i t n y = miss-covers j h e r f t n y
-cut-covers j h e r (w ∷ []) f i t n y =
-    let stands = standing j.table w (has-filter (wins j.table h) j.table w (subst (λ (ws : List Rule). Has ws w) (sym n) (inl refl))).0 in
+cut-covers : (j : Task) (h : Header) (e : Emission) (r : Rule) (ws : List Rule) (f : Crafted j.view h) → IsView j.view → InOrder j.table → j.target ≡ Cut r → winners (present j) h ≡ ws
+    → is_certain ws (may_miss (present j) h) h e ≡ true → Covers j h e
+cut-covers j h e r [] f i o t n y = miss-covers j h e r f t n (and_parts (may_miss (present j) h) _ y).1
+cut-covers j h e r (w ∷ []) f i o t n y =
+    let same : present j ≡ j.table = ap (with_update j.table) t in
+    let order : InOrder (present j) = subst InOrder (sym same) o in
+    let p = and_parts (not (may_miss (present j) h)) _ y in
+    let sure : w.unsure ≡ false = lone-sure (present j) h w order n (not-true _ p.0) in
+    let stands = standing (present j) w (has-filter (wins (present j) h) (present j) w (subst (λ (ws : List Rule). Has ws w) (sym n) (inl refl))).0 in
     rule-covers j h e stands.place w f i (record {
       there = stands.there;
       lone = n;
-      must_show = y;
+      must_emit = p.1;
       inside = λ position shape g.
           subst (λ (x : Target). Contains (by_winner j.table x f.class h.in_port) (case f.class h.in_port (Some stands.place) position)) (sym t)
-          (cut-in f.class h.in_port j.table stands.place w position shape stands.there g);
+          (cut-in f.class h.in_port j.table stands.place w position shape sure (ap (λ (t : List Rule). slice_get t stands.place) (sym same) ∙ stands.there) g);
     })
-cut-covers j h e r (w ∷ s ∷ rest) f i t n y = absurd (false≢true y)
+cut-covers j h e r (w ∷ s ∷ rest) f i o t n y = absurd (false≢true y)
 
 -- whatever the target
-covers-by : (j : Task) (x : Target) (h : Header) (e : Emission) (f : Crafted j.view h) → j.target ≡ x → Kept j → Separated j.view j.table (without_update j.table j.target) h e → Covers j h e
+covers-by : (j : Task) (x : Target) (h : Header) (e : Emission) (f : Crafted j.view h) → j.target ≡ x → Kept j → Separated j.view (present j) (without_update j.table j.target) h e → Covers j h e
 covers-by j (Put r old) h e f t k s =
-    own-covers j h e f k (subst (λ (y : Target). Has j.table (updated y)) (sym t) (subst (IsIn j.table) t k.job.there)) s
+    own-covers j h e f k (ap (λ (y : Target). with_update j.table y) t ∙ sym (ap (λ (y : Target). after j.table (edit.Put (own_rule y) None)) t)) (subst (λ (y : Target). Has j.table (updated y)) (sym t) (subst (IsIn j.table) t k.job.there)) s
     (λ position shape g. subst (λ (y : Target). slice_get (shapes_of (updated y).actions f.class h.in_port) position ≡ Some shape → Contains (by_winner j.table y f.class h.in_port) (case f.class h.in_port (Some (place_of (identity_of (updated y)) j.table)) position)) (sym t)
     (rule-in f.class h.in_port (place_of (identity_of r) j.table) r position shape) g)
-covers-by j (Cut r) h e f t k s = cut-covers j h e r (winners j.table h) f k.view t refl s.sure
+covers-by j (Cut r) h e f t k s = cut-covers j h e r (winners (present j) h) f k.view k.table.order t refl s.sure
 covers-by j (Watch r) h e f t k s =
-    own-covers j h e f k (subst (λ (y : Target). Has j.table (updated y)) (sym t) (subst (IsIn j.table) t k.job.there)) s
+    own-covers j h e f k (ap (λ (y : Target). with_update j.table y) t ∙ sym (ap (λ (y : Target). after j.table (edit.Put (own_rule y) None)) t)) (subst (λ (y : Target). Has j.table (updated y)) (sym t) (subst (IsIn j.table) t k.job.there)) s
     (λ position shape g. subst (λ (y : Target). slice_get (shapes_of (updated y).actions f.class h.in_port) position ≡ Some shape → Contains (by_winner j.table y f.class h.in_port) (case f.class h.in_port (Some (place_of (identity_of (updated y)) j.table)) position)) (sym t)
     (rule-in f.class h.in_port (place_of (identity_of r) j.table) r position shape) g)
 

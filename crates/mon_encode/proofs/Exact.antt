@@ -22,13 +22,13 @@ use Rattle.mon_outcome.specs.Filling.{filled}
 use Rattle.mon_outcome.specs.Shaping.{emitted_by}
 use Rattle.mon_outcome.proofs.Equality.{emission-same}
 use Rattle.mon_shows.specs.Views.{Viewing, IsView, has_link, craftable}
-use Rattle.mon_shows.specs.Separation.{is_miss, is_possible}
+use Rattle.mon_shows.specs.Separation.{is_miss, may_show}
 use Rattle.mon_literals.specs.Patterns.{pattern_of}
 use Rattle.mon_literals.proofs.Truths.{alone_true}
 use Rattle.mon_literals.specs.Conditions.{class_clauses}
 use Rattle.mon_literals.specs.Clauses.{alone}
 use Rattle.mon_encode.specs.Cases.{given}
-use Rattle.mon_encode.specs.Clauses.{unmatched, beaten, winning, chain, above, matched, or_hidden, hidden, not_missed}
+use Rattle.mon_encode.specs.Clauses.{sures, unmatched, beaten, winning, chain, above, matched, or_hidden, hidden, not_missed}
 use Rattle.mon_encode.proofs.Truth.{fits, Read, unmatched_true, none_true, all_lose, beaten_true}
 use Rattle.mon_encode.proofs.Chaining.{Falls, Helped, is_above, above_there, matched_there, chain_back, above_back, matched_back}
 use Rattle.mon_encode.proofs.Winners.{winner-there, winner-back, miss-there, miss-back}
@@ -61,11 +61,11 @@ some-winner v h t place w read g =
     ∙ ap (λ (b : Bool). matches w.matching h && b) (beaten_true v h place (rank w) 0 t read))
     )
 
-pub winning-there : (v : ℕ → Bool) (h : Header) (t : List Rule) (place : ℕ) (w : Rule) → Read v h t → slice_get t place ≡ Some w
+pub winning-there : (v : ℕ → Bool) (h : Header) (t : List Rule) (place : ℕ) (w : Rule) → Read v h t → slice_get t place ≡ Some w → w.unsure ≡ false
     → formula_true v (winning (Some place) t) ≡ true → winners t h ≡ w ∷ []
-winning-there v h t place w read g f =
+winning-there v h t place w read g u f =
     let p = and_parts (matches w.matching h) _ (sym (some-winner v h t place w read g) ∙ f) in
-    winner-there h place w t g p.0 p.1
+    winner-there h place w t g u p.0 p.1
 
 pub winning-back : (v : ℕ → Bool) (h : Header) (t : List Rule) (place : ℕ) (w : Rule) → Read v h t → slice_get t place ≡ Some w
     → winners t h ≡ w ∷ [] → formula_true v (winning (Some place) t) ≡ true
@@ -106,31 +106,31 @@ rule-is v h class in_port shape o r hiding fit =
     ∙ ap (λ (b : Bool). b || not (may r.actions h (given shape h).0))
     (list_any-append (lit_true v) (unmatched r) o ∙ ap (λ (b : Bool). b || clause_true v o) (unmatched_true v r))
 
-hidden-there : (v : ℕ → Bool) (h : Header) (class : Class) (in_port : ℕ) (shape : Option Shape) (k : ℕ) (whole t : List Rule) → Hiding v h class in_port shape → AllActionsFit t → Read v h whole → Read v h t
-    → ((n : ℕ) → clause_true v (above k [] n whole) ≡ true → list_any (is_above v n) whole ≡ true)
-    → formula_true v (hidden k class in_port shape whole t) ≡ true → all_hidden h (given shape h).0 whole t ≡ true
+hidden-there : (v : ℕ → Bool) (h : Header) (class : Class) (in_port : ℕ) (shape : Option Shape) (k : ℕ) (whole t : List Rule) → Hiding v h class in_port shape → AllActionsFit t → Read v h (sures whole) → Read v h t
+    → ((n : ℕ) → clause_true v (above k [] n (sures whole)) ≡ true → list_any (is_above v n) (sures whole) ≡ true)
+    → formula_true v (hidden k class in_port shape (sures whole) t) ≡ true → all_hidden h (given shape h).0 whole t ≡ true
 hidden-there v h class in_port shape k whole [] hiding fit all read g f = refl
 hidden-there v h class in_port shape k whole (r ∷ t) hiding fit all read g f =
-    let o = above k [] (rank r) whole in
+    let o = above k [] (rank r) (sures whole) in
     let e = (given shape h).0 in
     let p = and_parts (formula_true v (or_hidden (unmatched r ++ o) class in_port shape r)) _ (sym (list_all-append (clause_true v) (or_hidden (unmatched r ++ o) class in_port shape r) _) ∙ f) in
     and_from _ _
     (ap (λ (b : Bool). not (b && may r.actions h e)) (wins-is v h whole r all read.0)
-    ∙ there (fits v r) (clause_true v o) (list_any (is_above v (rank r)) whole) (may r.actions h e) (g (rank r)) (sym (rule-is v h class in_port shape o r hiding fit.0) ∙ p.0))
+    ∙ there (fits v r) (clause_true v o) (list_any (is_above v (rank r)) (sures whole)) (may r.actions h e) (g (rank r)) (sym (rule-is v h class in_port shape o r hiding fit.0) ∙ p.0))
     (hidden-there v h class in_port shape k whole t hiding fit.1 all read.1 g p.1)
 
-hidden-back : (v : ℕ → Bool) (h : Header) (class : Class) (in_port : ℕ) (shape : Option Shape) (k : ℕ) (whole t : List Rule) → Hiding v h class in_port shape → AllActionsFit t → Read v h whole → Read v h t
-    → ((n : ℕ) → list_any (is_above v n) whole ≡ true → clause_true v (above k [] n whole) ≡ true)
-    → all_hidden h (given shape h).0 whole t ≡ true → formula_true v (hidden k class in_port shape whole t) ≡ true
+hidden-back : (v : ℕ → Bool) (h : Header) (class : Class) (in_port : ℕ) (shape : Option Shape) (k : ℕ) (whole t : List Rule) → Hiding v h class in_port shape → AllActionsFit t → Read v h (sures whole) → Read v h t
+    → ((n : ℕ) → list_any (is_above v n) (sures whole) ≡ true → clause_true v (above k [] n (sures whole)) ≡ true)
+    → all_hidden h (given shape h).0 whole t ≡ true → formula_true v (hidden k class in_port shape (sures whole) t) ≡ true
 hidden-back v h class in_port shape k whole [] hiding fit all read g f = refl
 hidden-back v h class in_port shape k whole (r ∷ t) hiding fit all read g f =
-    let o = above k [] (rank r) whole in
+    let o = above k [] (rank r) (sures whole) in
     let e = (given shape h).0 in
     let p = and_parts (not (wins whole h r && may r.actions h e)) _ f in
     list_all-append (clause_true v) (or_hidden (unmatched r ++ o) class in_port shape r) _
     ∙ and_from _ _
     (rule-is v h class in_port shape o r hiding fit.0
-    ∙ back (fits v r) (clause_true v o) (list_any (is_above v (rank r)) whole) (may r.actions h e) (g (rank r)) (ap (λ (b : Bool). not (b && may r.actions h e)) (sym (wins-is v h whole r all read.0)) ∙ p.0))
+    ∙ back (fits v r) (clause_true v o) (list_any (is_above v (rank r)) (sures whole)) (may r.actions h e) (g (rank r)) (ap (λ (b : Bool). not (b && may r.actions h e)) (sym (wins-is v h whole r all read.0)) ∙ p.0))
     (hidden-back v h class in_port shape k whole t hiding fit.1 all read.1 g p.1)
 
 -- whether the emission is a miss
@@ -156,30 +156,31 @@ missed-back v h (Some shape) k t g f = refl
 -- all that the clauses say of the table without the update
 pub record Undone (v : ℕ → Bool) (h : Header) (t : List Rule) : Type 0 where
   pub table : IsTable t
-  pub falls : Falls t
+  pub falls : Falls (sures t)
   pub fit : AllActionsFit t
   pub read : Read v h t
+  pub reads : Read v h (sures t)
 
 abbrev pub hiding_clauses : Class → ℕ → Option Shape → List Rule → List (List Lit)
-hiding_clauses class in_port shape t = chain 264 [] t ++ (hidden 264 class in_port shape t t ++ not_missed 264 shape t)
+hiding_clauses class in_port shape t = chain 264 [] (sures t) ++ (hidden 264 class in_port shape (sures t) t ++ not_missed 264 shape (sures t))
 
 pub impossible-there : (v : ℕ → Bool) (h : Header) (class : Class) (in_port : ℕ) (shape : Option Shape) (t : List Rule) → Undone v h t → Literals v h → FitsShape shape → Meets class in_port h
-    → formula_true v (hiding_clauses class in_port shape t) ≡ true → not (is_possible (winners t h) h (given shape h).0) ≡ true
+    → formula_true v (hiding_clauses class in_port shape t) ≡ true → not (may_show t h (given shape h).0) ≡ true
 impossible-there v h class in_port shape t u l fit meets f =
-    let p = and_parts (formula_true v (chain 264 [] t)) _ (sym (list_all-append (clause_true v) (chain 264 [] t) _) ∙ f) in
-    let q = and_parts (formula_true v (hidden 264 class in_port shape t t)) _ (sym (list_all-append (clause_true v) (hidden 264 class in_port shape t t) _) ∙ p.1) in
-    hidden-is h (given shape h).0 t u.table.order
+    let p = and_parts (formula_true v (chain 264 [] (sures t))) _ (sym (list_all-append (clause_true v) (chain 264 [] (sures t)) _) ∙ f) in
+    let q = and_parts (formula_true v (hidden 264 class in_port shape (sures t) t)) _ (sym (list_all-append (clause_true v) (hidden 264 class in_port shape (sures t) t) _) ∙ p.1) in
+    hidden-is h (given shape h).0 t
     ∙ and_from _ _
-    (hidden-there v h class in_port shape 264 t t (record { differs = l.differs; fit = fit; meets = meets }) u.fit u.read u.read
-    (λ n e. above_there v 264 [] n t false p.0 (λ x. x) e) q.0)
-    (missed-there v h shape 264 t (λ e. sym (any-read v h t u.read) ∙ matched_there v 264 [] t false p.0 (λ x. x) e) q.1)
+    (hidden-there v h class in_port shape 264 t t (record { differs = l.differs; fit = fit; meets = meets }) u.fit u.reads u.read
+    (λ n e. above_there v 264 [] n (sures t) false p.0 (λ x. x) e) q.0)
+    (missed-there v h shape 264 (sures t) (λ e. sym (any-read v h (sures t) u.reads) ∙ matched_there v 264 [] (sures t) false p.0 (λ x. x) e) q.1)
 
 pub impossible-back : (v : ℕ → Bool) (h : Header) (class : Class) (in_port : ℕ) (shape : Option Shape) (t : List Rule) → Undone v h t → Literals v h → FitsShape shape → Meets class in_port h
-    → Helped v 264 false t → not (is_possible (winners t h) h (given shape h).0) ≡ true → formula_true v (hiding_clauses class in_port shape t) ≡ true
+    → Helped v 264 false (sures t) → not (may_show t h (given shape h).0) ≡ true → formula_true v (hiding_clauses class in_port shape t) ≡ true
 impossible-back v h class in_port shape t u l fit meets helped f =
-    let p = and_parts (all_hidden h (given shape h).0 t t) _ (sym (hidden-is h (given shape h).0 t u.table.order) ∙ f) in
-    list_all-append (clause_true v) (chain 264 [] t) _ ∙ and_from _ _ (chain_back v 264 [] t false helped (λ x. x))
-    (list_all-append (clause_true v) (hidden 264 class in_port shape t t) _ ∙ and_from _ _
-    (hidden-back v h class in_port shape 264 t t (record { differs = l.differs; fit = fit; meets = meets }) u.fit u.read u.read
-    (λ n e. above_back v 264 [] n t false helped u.falls (λ x. x) e) p.0)
-    (missed-back v h shape 264 t (λ e. matched_back v 264 [] t false helped (λ x. x) (any-read v h t u.read ∙ e)) p.1))
+    let p = and_parts (all_hidden h (given shape h).0 t t) _ (sym (hidden-is h (given shape h).0 t) ∙ f) in
+    list_all-append (clause_true v) (chain 264 [] (sures t)) _ ∙ and_from _ _ (chain_back v 264 [] (sures t) false helped (λ x. x))
+    (list_all-append (clause_true v) (hidden 264 class in_port shape (sures t) t) _ ∙ and_from _ _
+    (hidden-back v h class in_port shape 264 t t (record { differs = l.differs; fit = fit; meets = meets }) u.fit u.reads u.read
+    (λ n e. above_back v 264 [] n (sures t) false helped u.falls (λ x. x) e) p.0)
+    (missed-back v h shape 264 (sures t) (λ e. matched_back v 264 [] (sures t) false helped (λ x. x) (any-read v h (sures t) u.reads ∙ e)) p.1))

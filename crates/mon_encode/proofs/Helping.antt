@@ -14,6 +14,7 @@ use Rattle.mon_shows.specs.Separation.{without_update}
 use Rattle.mon_job.specs.Jobs.{Task}
 use Rattle.mon_literals.specs.Bearing.{Bears}
 use Rattle.mon_literals.proofs.Values.{bits_bear}
+use Rattle.mon_encode.specs.Clauses.{sures}
 use Rattle.mon_encode.specs.Formulas.{helpers, vars_of, encoded}
 use Rattle.mon_encode.proofs.Truth.{fits as is_fit, Read}
 use Rattle.mon_encode.proofs.Chaining.{Helped}
@@ -45,15 +46,15 @@ helpers-long h seen (r ∷ t) = let n = helpers-long h (seen || matches r.matchi
 pub encoded-long : (j : Task) (h : Header) → length (encoded j h) ≡ vars_of j
 unfolding encoded
 encoded-long j h =
-    length-append (header_bits h) (helpers h false (without_update j.table j.target))
-    ∙ (let a = header-long h in let b = helpers-long h false (without_update j.table j.target) in omega arith)
+    length-append (header_bits h) (helpers h false (sures (without_update j.table j.target)))
+    ∙ (let a = header-long h in let b = helpers-long h false (sures (without_update j.table j.target)) in omega arith)
 
 pub encoded-bears : (j : Task) (c : Class) (h : Header) → is_in_class c h ≡ true → Bears (values_of (encoded j h)) h
 unfolding encoded is_in_class
-encoded-bears j c h y = bits_bear h (helpers h false (without_update j.table j.target)) (and_parts (fits h) _ y).0
+encoded-bears j c h y = bits_bear h (helpers h false (sures (without_update j.table j.target))) (and_parts (fits h) _ y).0
 
-pub encoded-helped : (j : Task) (h : Header) → Read (values_of (encoded j h)) h (without_update j.table j.target) → Helped (values_of (encoded j h)) 264 false (without_update j.table j.target)
+pub encoded-helped : (j : Task) (h : Header) → Read (values_of (encoded j h)) h (sures (without_update j.table j.target)) → Helped (values_of (encoded j h)) 264 false (sures (without_update j.table j.target))
 unfolding encoded
 encoded-helped j h read =
-    subst (λ (k : ℕ). Helped (values_of (encoded j h)) k false (without_update j.table j.target)) (header-long h)
-    (helped-row (values_of (encoded j h)) h (header_bits h) false (without_update j.table j.target) read (λ x. refl))
+    subst (λ (k : ℕ). Helped (values_of (encoded j h)) k false (sures (without_update j.table j.target))) (header-long h)
+    (helped-row (values_of (encoded j h)) h (header_bits h) false (sures (without_update j.table j.target)) read (λ x. refl))

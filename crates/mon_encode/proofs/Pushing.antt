@@ -1,5 +1,5 @@
 -- Steps of the code that appends clauses.
-use Rattle.std.proofs.Common.{◌≡◌, ℕ, suc, ◌+◌, ◌<◌, ◌≤◌, sym, ap, ◌∙◌, List, [], ◌∷◌, ◌++◌, length, map, get_or, drop, drop-cons, add-one, append_assoc, Option, Some, None, Result, Ok, Err, OnOk, IfOk, true, false, cond}
+use Rattle.std.proofs.Common.{◌≡◌, ℕ, suc, ◌+◌, ◌<◌, ◌≤◌, refl, sym, ap, ◌∙◌, List, [], ◌∷◌, ◌++◌, length, map, get_or, drop, drop-cons, add-one, append_assoc, Option, Some, None, Result, Ok, Err, OnOk, IfOk, true, false, cond}
 use Rattle.std.specs.List.{slice_get}
 use Rattle.mon_cnf.specs.declared.clause.Lit.{Lit}
 use Rattle.mon_cnf.specs.Formulas.{Cnf}
@@ -13,7 +13,7 @@ use Rattle.mon_literals.specs.Patterns.{pattern_of}
 use Rattle.mon_outcome.specs.declared.shape.Shape.{Shape}
 use Rattle.mon_literals.specs.Differing.{differ}
 use Rattle.mon_literals.proofs.Reaching.{differ_within, pattern_within, more_within, denied_within}
-use Rattle.mon_encode.specs.Clauses.{true_at, false_at, unmatched, beaten, won, chain, above, same_door, apart, or_hidden, hidden}
+use Rattle.mon_encode.specs.Clauses.{true_at, false_at, unmatched, beaten, won, sures, chain, above, same_door, apart, or_hidden, hidden}
 
 abbrev formula : ℕ → List (List Lit) → Cnf
 formula vars clauses = record { vars = vars; clauses = clauses }
@@ -29,13 +29,20 @@ unmatched-fits vars r le = denied_within vars (pattern_of r.matching) (pattern-f
 pub from-here : (t : List Rule) (n : ℕ) (r : Rule) → n < length t → r ≡ get_or t n r → drop n t ≡ r ∷ drop (n + 1) t
 from-here t n r lt e = drop-cons t n r lt ∙ (ap (λ (x : Rule). x ∷ drop (suc n) t) (sym e) ∙ ap (λ (m : ℕ). r ∷ drop m t) (sym (add-one n)))
 
+-- the sure rules from a place on
+pub sures-more : (t : List Rule) (n : ℕ) (r : Rule) → n < length t → r ≡ get_or t n r → r.unsure ≡ false → sures (drop n t) ≡ r ∷ sures (drop (n + 1) t)
+sures-more t n r lt e u = ap sures (from-here t n r lt e) ∙ rw u refl
+
+pub sures-skip : (t : List Rule) (n : ℕ) (r : Rule) → n < length t → r ≡ get_or t n r → r.unsure ≡ true → sures (drop n t) ≡ sures (drop (n + 1) t)
+sures-skip t n r lt e u = ap sures (from-here t n r lt e) ∙ rw u refl
+
 -- the helpers of one more rule
-pub chain-more : (old f g : Cnf) (k n : ℕ) (earlier ls : List Lit) (t : List Rule) (r : Rule) (all : List (List Lit)) → n < length t → r ≡ get_or t n r → ls ≡ pattern_of r.matching
+pub chain-more : (old f g : Cnf) (k n : ℕ) (earlier ls : List Lit) (t : List Rule) (r : Rule) (all : List (List Lit)) → n < length t → r ≡ get_or t n r → r.unsure ≡ false → ls ≡ pattern_of r.matching
     → f ≡ appended old (map (λ (l : Lit). false_at k ∷ l ∷ []) ls) → g ≡ appended f ((false_at (k + 1) ∷ true_at k ∷ earlier) ∷ [])
-    → old.clauses ++ chain k earlier (drop n t) ≡ all
-    → g.clauses ++ chain (k + 2) (true_at (k + 1) ∷ []) (drop (n + 1) t) ≡ all
-chain-more old f g k n earlier ls t r all lt e p a b s =
-    let rest = chain (k + 2) (true_at (k + 1) ∷ []) (drop (n + 1) t) in
+    → old.clauses ++ chain k earlier (sures (drop n t)) ≡ all
+    → g.clauses ++ chain (k + 2) (true_at (k + 1) ∷ []) (sures (drop (n + 1) t)) ≡ all
+chain-more old f g k n earlier ls t r all lt e u p a b s =
+    let rest = chain (k + 2) (true_at (k + 1) ∷ []) (sures (drop (n + 1) t)) in
     let link = false_at (k + 1) ∷ true_at k ∷ earlier in
     let told = λ (xs : List Lit). map (λ (l : Lit). false_at k ∷ l ∷ []) xs in
     ap (λ (x : Cnf). x.clauses ++ rest) b
@@ -43,7 +50,7 @@ chain-more old f g k n earlier ls t r all lt e p a b s =
     ∙ (append_assoc (old.clauses ++ told ls) (link ∷ []) rest
     ∙ (append_assoc old.clauses (told ls) (link ∷ rest)
     ∙ (ap (λ (xs : List Lit). old.clauses ++ (told xs ++ (link ∷ rest))) p
-    ∙ (sym (ap (λ (rs : List Rule). old.clauses ++ chain k earlier rs) (from-here t n r lt e)) ∙ s)))))
+    ∙ (sym (ap (λ (rs : List Rule). old.clauses ++ chain k earlier rs) (sures-more t n r lt e u)) ∙ s)))))
 
 -- what follows of a call that found memory
 pub on-ok : {T E : Type 0} (r : Result T E) (P Q : Type 0) → (P → Q) → OnOk r P → OnOk r Q
@@ -71,15 +78,15 @@ apart-fits vars (Some shape) other o d le e f =
     ] (sym e ∙ f)
 
 -- one more rule that is hidden
-pub hidden-more : (f g : Cnf) (class : Class) (in_port : ℕ) (shape : Option Shape) (n : ℕ) (base high : List Lit) (t : List Rule) (r : Rule) (all : List (List Lit)) → n < length t → r ≡ get_or t n r
-    → base ≡ unmatched r ++ high → above 264 [] (rank r) t ≡ high → g ≡ appended f (or_hidden base class in_port shape r)
-    → f.clauses ++ hidden 264 class in_port shape t (drop n t) ≡ all → g.clauses ++ hidden 264 class in_port shape t (drop (n + 1) t) ≡ all
-hidden-more f g class in_port shape n base high t r all lt e b h p s =
-    let rest = hidden 264 class in_port shape t (drop (n + 1) t) in
+pub hidden-more : (f g : Cnf) (class : Class) (in_port : ℕ) (shape : Option Shape) (n : ℕ) (base high : List Lit) (sure t : List Rule) (r : Rule) (all : List (List Lit)) → n < length t → r ≡ get_or t n r
+    → base ≡ unmatched r ++ high → above 264 [] (rank r) sure ≡ high → g ≡ appended f (or_hidden base class in_port shape r)
+    → f.clauses ++ hidden 264 class in_port shape sure (drop n t) ≡ all → g.clauses ++ hidden 264 class in_port shape sure (drop (n + 1) t) ≡ all
+hidden-more f g class in_port shape n base high sure t r all lt e b h p s =
+    let rest = hidden 264 class in_port shape sure (drop (n + 1) t) in
     ap (λ (x : Cnf). x.clauses ++ rest) p
     ∙ (append_assoc f.clauses (or_hidden base class in_port shape r) rest
     ∙ (ap (λ (ls : List Lit). f.clauses ++ (or_hidden ls class in_port shape r ++ rest)) (b ∙ ap (λ (ls : List Lit). unmatched r ++ ls) (sym h))
-    ∙ (sym (ap (λ (rs : List Rule). f.clauses ++ hidden 264 class in_port shape t rs) (from-here t n r lt e)) ∙ s)))
+    ∙ (sym (ap (λ (rs : List Rule). f.clauses ++ hidden 264 class in_port shape sure rs) (from-here t n r lt e)) ∙ s)))
 
 pub if-ok : {T E : Type 0} (r : Result T E) (P Q : T → Type 0) → ((x : T) → P x → Q x) → IfOk r P → IfOk r Q
 if-ok (Ok x) P Q f p = f x p

@@ -1,28 +1,36 @@
 -- Winners by their places in a table.
-use Rattle.std.proofs.Common.{◌≡◌, ℕ, zero, suc, ◌+◌, ◌<◌, ◌≤◌, Bool, true, false, not, ◌||◌, List, [], ◌∷◌, Option, Some, None, refl, sym, ap, ◌∙◌, arith, ⊎_elim}
+use Rattle.std.proofs.Common.{◌≡◌, ℕ, zero, suc, ◌+◌, ◌<◌, ◌≤◌, Bool, true, false, not, ◌||◌, List, [], ◌∷◌, Some, refl, sym, ap, subst, ◌∙◌, arith, ⊎_elim}
 use Rattle.std.specs.Prelude.{◌==◌, nat_lt, nat_le}
 use Rattle.std.specs.List.{filter, slice_get, list_all}
-use Rattle.std.proofs.lemmas.Bool.{cases_Bool, and_parts, and_from, or_left, or_right, or_cases, not_from_false, not-true, both_ways, false≢true, eq-eqb, ne_eqb, leb-true, le-leb, lt-ltb, le-ltb, ltb-true, cases_lt, false_from_ne_true}
+use Rattle.std.proofs.lemmas.Bool.{cases_Bool, and_parts, and_from, and_left, or_left, or_right, or_cases, not_from_false, not-true, both_ways, false≢true, eq-eqb, ne_eqb, leb-true, le-leb, lt-ltb, le-ltb, ltb-true, cases_lt, false_from_ne_true}
 use Rattle.mon_header.specs.declared.header.Header.{Header}
 use Rattle.mon_header.specs.Matching.{matches}
 use Rattle.mon_table.specs.declared.rule.Rule.{Rule}
 use Rattle.mon_table.specs.Rules.{rank}
 use Rattle.mon_table.specs.Tables.{InOrder}
-use Rattle.mon_table.specs.Winners.{is_highest, wins, winners}
-use Rattle.mon_table.specs.Places.{top_rank, is_at_rank}
-use Rattle.mon_shows.proofs.Looking.{winners-some, winners-none, top-matched, top-passed, filter-in, filter-out}
+use Rattle.mon_table.specs.Winners.{is_highest, wins, winners, may_miss}
+use Rattle.mon_table.proofs.Listing.{has-list_all, list_all-has}
+use Rattle.mon_table.proofs.Members.{filter-has}
+use Rattle.mon_table.proofs.Vanishing.{Hider, misses-or-hides, hider-wins, no-winner}
+use Rattle.mon_list.specs.Has.{Has}
+use Rattle.mon_shows.proofs.Looking.{filter-in, filter-out}
 use Rattle.mon_encode.proofs.Truth.{all_lose}
 
 -- what wins of the highest effective priority does so of any that is as high
-all-below : (h : Header) (low high : ℕ) (t : List Rule) → low ≤ high → list_all (λ s. not (matches s.matching h) || nat_le (rank s) low) t ≡ true
-    → list_all (λ s. not (matches s.matching h) || nat_le (rank s) high) t ≡ true
+all-below : (h : Header) (low high : ℕ) (t : List Rule) → low ≤ high → list_all (λ s. not (matches s.matching h) || (s.unsure || nat_le (rank s) low)) t ≡ true
+    → list_all (λ s. not (matches s.matching h) || (s.unsure || nat_le (rank s) high)) t ≡ true
 all-below h low high [] le a = refl
 all-below h low high (s ∷ t) le a =
-    let p = and_parts (not (matches s.matching h) || nat_le (rank s) low) _ a in
+    let p = and_parts (not (matches s.matching h) || (s.unsure || nat_le (rank s) low)) _ a in
     and_from _ _
     (⊎_elim
     (λ (m : not (matches s.matching h) ≡ true). or_left _ _ m)
-    (λ (m : nat_le (rank s) low ≡ true). let l : rank s ≤ low = leb-true (rank s) low m in or_right _ _ (le-leb (rank s) high (omega arith)))
+    (λ (m : (s.unsure || nat_le (rank s) low) ≡ true).
+    let x : (s.unsure || nat_le (rank s) high) ≡ true = ⊎_elim
+    (λ (u : s.unsure ≡ true). or_left s.unsure (nat_le (rank s) high) u)
+    (λ (k : nat_le (rank s) low ≡ true). let l : rank s ≤ low = leb-true (rank s) low k in or_right s.unsure (nat_le (rank s) high) (le-leb (rank s) high (omega arith)))
+    (or_cases s.unsure _ m) in
+    or_right _ _ x)
     (or_cases (not (matches s.matching h)) _ p.0))
     (all-below h low high t le p.1)
 
@@ -70,17 +78,17 @@ only-there p h winner least place (suc at) w (r ∷ t) f e g y a =
     filter-out p r t out ∙ only-there p h winner least (suc place) at w t f (omega arith) g y q.1
 
 lost-low : (h : Header) (winner place : ℕ) (w r : Rule) → (place ≡ winner → ⊥) → (((place == winner) || nat_lt (rank r) (rank w)) || not (matches r.matching h)) ≡ true
-    → (not (matches r.matching h) || nat_le (rank r) (rank w)) ≡ true
+    → (not (matches r.matching h) || (r.unsure || nat_le (rank r) (rank w))) ≡ true
 lost-low h winner place w r ne a =
     let elsewhere : (place == winner) ≡ false = ne_eqb place winner ne in
     let b : (nat_lt (rank r) (rank w) || not (matches r.matching h)) ≡ true = rw elsewhere at a in
     ⊎_elim
-    (λ (l : nat_lt (rank r) (rank w) ≡ true). let k : rank r < rank w = ltb-true (rank r) (rank w) l in or_right _ _ (le-leb (rank r) (rank w) (omega arith)))
+    (λ (l : nat_lt (rank r) (rank w) ≡ true). let k : rank r < rank w = ltb-true (rank r) (rank w) l in or_right _ _ (or_right _ _ (le-leb (rank r) (rank w) (omega arith))))
     (λ (m : not (matches r.matching h) ≡ true). or_left _ _ m)
     (or_cases (nat_lt (rank r) (rank w)) _ b)
 
 high-behind : (h : Header) (winner place : ℕ) (w : Rule) (t : List Rule) → winner < place → all_lose h winner (rank w) place t ≡ true
-    → list_all (λ s. not (matches s.matching h) || nat_le (rank s) (rank w)) t ≡ true
+    → list_all (λ s. not (matches s.matching h) || (s.unsure || nat_le (rank s) (rank w))) t ≡ true
 high-behind h winner place w [] lt a = refl
 high-behind h winner place w (r ∷ t) lt a =
     let q = and_parts ((((place == winner) || nat_lt (rank r) (rank w)) || not (matches r.matching h))) _ a in
@@ -88,12 +96,12 @@ high-behind h winner place w (r ∷ t) lt a =
 
 -- the rule at the place is as high as all that match
 highest-from : (h : Header) (winner place at : ℕ) (w : Rule) (t : List Rule) → winner ≡ place + at → slice_get t at ≡ Some w → all_lose h winner (rank w) place t ≡ true
-    → list_all (λ s. not (matches s.matching h) || nat_le (rank s) (rank w)) t ≡ true
+    → list_all (λ s. not (matches s.matching h) || (s.unsure || nat_le (rank s) (rank w))) t ≡ true
 highest-from h winner place at w [] e g a = refl
 highest-from h winner place zero w (r ∷ t) e g a =
     let same : r ≡ w = cc in
     let q = and_parts ((((place == winner) || nat_lt (rank r) (rank w)) || not (matches r.matching h))) _ a in
-    and_from _ _ (or_right _ _ (le-leb (rank r) (rank w) (let k : rank r ≡ rank w = ap rank same in omega arith))) (high-behind h winner (suc place) w t (omega arith) q.1)
+    and_from _ _ (or_right _ _ (or_right _ _ (le-leb (rank r) (rank w) (let k : rank r ≡ rank w = ap rank same in omega arith)))) (high-behind h winner (suc place) w t (omega arith) q.1)
 highest-from h winner place (suc at) w (r ∷ t) e g a =
     let q = and_parts ((((place == winner) || nat_lt (rank r) (rank w)) || not (matches r.matching h))) _ a in
     and_from _ _ (lost-low h winner place w r (λ k. omega arith) q.0) (highest-from h winner (suc place) at w t (omega arith) g q.1)
@@ -104,22 +112,22 @@ at-place p [] place w g a = absurd (let z : ⊥ = cc in z)
 at-place p (r ∷ t) zero w g a = let same : r ≡ w = cc in sym (ap p same) ∙ (and_parts (p r) _ a).0
 at-place p (r ∷ t) (suc place) w g a = at-place p t place w g (and_parts (p r) _ a).1
 
-not-lower : (t : List Rule) (h : Header) (winner : ℕ) (w r : Rule) → slice_get t winner ≡ Some w → matches w.matching h ≡ true → is_highest t h r ≡ true → nat_lt (rank r) (rank w) ≡ false
+not-lower : (t : List Rule) (h : Header) (winner : ℕ) (w r : Rule) → slice_get t winner ≡ Some w → w.unsure ≡ false → matches w.matching h ≡ true → is_highest t h r ≡ true → nat_lt (rank r) (rank w) ≡ false
 unfolding is_highest
-not-lower t h winner w r g m a =
-    let b : (not (matches w.matching h) || nat_le (rank w) (rank r)) ≡ true = at-place (λ s. not (matches s.matching h) || nat_le (rank s) (rank r)) t winner w g a in
-    let c : nat_le (rank w) (rank r) ≡ true = rw m at b in
+not-lower t h winner w r g u m a =
+    let b : (not (matches w.matching h) || (w.unsure || nat_le (rank w) (rank r))) ≡ true = at-place (λ s. not (matches s.matching h) || (s.unsure || nat_le (rank s) (rank r))) t winner w g a in
+    let c : nat_le (rank w) (rank r) ≡ true = rw (m, u) at b in
     let d : rank w ≤ rank r = leb-true (rank w) (rank r) c in
     le-ltb (rank r) (rank w) d
 
-pub winner-there : (h : Header) (winner : ℕ) (w : Rule) (t : List Rule) → slice_get t winner ≡ Some w → matches w.matching h ≡ true → all_lose h winner (rank w) 0 t ≡ true
+pub winner-there : (h : Header) (winner : ℕ) (w : Rule) (t : List Rule) → slice_get t winner ≡ Some w → w.unsure ≡ false → matches w.matching h ≡ true → all_lose h winner (rank w) 0 t ≡ true
     → winners t h ≡ w ∷ []
 unfolding is_highest
-winner-there h winner w t g m a =
+winner-there h winner w t g u m a =
     let high : is_highest t h w ≡ true = highest-from h winner 0 winner w t (omega arith) g a in
     let win : wins t h w ≡ true = and_from _ _ m high in
     only-there (wins t h) h winner (rank w) 0 winner w t
-    (λ r y. let q = and_parts (matches r.matching h) _ y in (not-lower t h winner w r g m q.1, q.0))
+    (λ r y. let q = and_parts (matches r.matching h) _ y in (not-lower t h winner w r g u m q.1, q.0))
     (omega arith) g win a
 
 -- where the one at the winner's place is the only winner, all others lose
@@ -180,37 +188,43 @@ winner-back h winner w t g e =
       only-back (wins t h) h winner (rank w) 0 winner w t (λ r b. loses t h w r win b) (omega arith) g win e,
     )
 
--- no rule wins exactly where none matches
-pub none-there : (h : Header) (t : List Rule) → list_all (λ r. not (matches r.matching h)) t ≡ true → top_rank h t ≡ None
-none-there h [] a = refl
-none-there h (r ∷ t) a =
+-- none wins exactly where no rule matches
+lose-all : (h : Header) (u t : List Rule) → list_all (λ r. not (matches r.matching h)) t ≡ true → filter (wins u h) t ≡ []
+lose-all h u [] a = refl
+lose-all h u (r ∷ t) a =
     let p = and_parts (not (matches r.matching h)) _ a in
-    top-passed h r t (not-true _ p.0) ∙ none-there h t p.1
-
-pub none-back : (h : Header) (t : List Rule) → top_rank h t ≡ None → list_all (λ r. not (matches r.matching h)) t ≡ true
-none-back h [] e = refl
-none-back h (r ∷ t) e = ⊎_elim
-    (λ m. absurd (let z : Some (rank r) ≡ None = sym (top-matched h r t m) ∙ e in let f : ⊥ = cc in f))
-    (λ m. and_from _ _ (not_from_false _ m) (none-back h t (sym (top-passed h r t m) ∙ e)))
-    (cases_Bool (matches r.matching h))
-
-some-kept : (h : Header) (n : ℕ) (t : List Rule) → top_rank h t ≡ Some n → filter (is_at_rank h n) t ≡ [] → ⊥
-some-kept h n [] e k = let z : ⊥ = cc in z
-some-kept h n (r ∷ t) e k = ⊎_elim
-    (λ m.
-    let given : Some (rank r) ≡ Some n = sym (top-matched h r t m) ∙ e in
-    let same : rank r ≡ n = cc in
-    let y : is_at_rank h n r ≡ true = and_from _ _ (eq-eqb (rank r) n same) m in
-    false≢true (sym (none-out (is_at_rank h n) r t k).0 ∙ y))
-    (λ m. some-kept h n t (sym (top-passed h r t m) ∙ e) (none-out (is_at_rank h n) r t k).1)
-    (cases_Bool (matches r.matching h))
-
-top-none : (h : Header) (t : List Rule) (o : Option ℕ) → InOrder t → top_rank h t ≡ o → winners t h ≡ [] → top_rank h t ≡ None
-top-none h t None order e k = e
-top-none h t (Some n) order e k = absurd (some-kept h n t e (sym (winners-some h n t order e) ∙ k))
+    filter-out (wins u h) r t (and_left _ _ (not-true _ p.0)) ∙ lose-all h u t p.1
 
 pub miss-there : (h : Header) (t : List Rule) → list_all (λ r. not (matches r.matching h)) t ≡ true → winners t h ≡ []
-miss-there h t a = winners-none h t (none-there h t a)
+miss-there h t a = lose-all h t t a
+
+missed-highest : (h : Header) (t : List Rule) (r : Rule) → may_miss t h ≡ true → is_highest t h r ≡ true
+unfolding is_highest
+missed-highest h t r e =
+    list_all-has (λ s. not (matches s.matching h) || (s.unsure || nat_le (rank s) (rank r))) t (λ s i. ⊎_elim
+    (λ (n : not (matches s.matching h) ≡ true). or_left _ _ n)
+    (λ (u : s.unsure ≡ true). or_right _ _ (or_left _ _ u))
+    (or_cases (not (matches s.matching h)) s.unsure (has-list_all (λ s. not (matches s.matching h) || s.unsure) t s e i)))
 
 pub miss-back : (h : Header) (t : List Rule) → InOrder t → winners t h ≡ [] → list_all (λ r. not (matches r.matching h)) t ≡ true
-miss-back h t order k = none-back h t (top-none h t (top_rank h t) order refl k)
+miss-back h t order k =
+    let e = no-winner t h order k in
+    list_all-has (λ r. not (matches r.matching h)) t (λ r i. not_from_false _ (false_from_ne_true (matches r.matching h) (λ m.
+    subst (λ (ws : List Rule). Has ws r) k (filter-has (wins t h) t r i (and_from _ _ m (missed-highest h t r e))))))
+
+-- where a sure rule that matches stands the packet cannot miss
+pub place-no-miss : (t : List Rule) (h : Header) (place : ℕ) (w : Rule) → slice_get t place ≡ Some w → w.unsure ≡ false → matches w.matching h ≡ true → may_miss t h ≡ false
+place-no-miss t h place w g u m = false_from_ne_true (may_miss t h) (λ e.
+    let b : (not (matches w.matching h) || w.unsure) ≡ true = at-place (λ s. not (matches s.matching h) || s.unsure) t place w g e in
+    let bad : false ≡ true = rw (m, u) at b in
+    false≢true bad)
+
+-- the only winner is sure where the packet cannot miss
+pub lone-sure : (t : List Rule) (h : Header) (w : Rule) → InOrder t → winners t h ≡ w ∷ [] → may_miss t h ≡ false → w.unsure ≡ false
+lone-sure t h w order k n = ⊎_elim
+    (λ (e : may_miss t h ≡ true). absurd (both_ways (may_miss t h) n e))
+    (λ (x : Hider h t). ⊎_elim
+    (λ (same : x.rule ≡ w). subst (λ (r : Rule). r.unsure ≡ false) same (not-true _ (and_parts (not x.rule.unsure) _ x.hidden).0))
+    (λ none. absurd none)
+    (subst (λ (ws : List Rule). Has ws x.rule) k (hider-wins t h order x)))
+    (misses-or-hides h t)

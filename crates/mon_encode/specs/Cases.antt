@@ -1,6 +1,6 @@
 -- The cases of a job: in which class and at which port a probe of it can come in, which rule wins there, and which of
 -- that rule's emissions shows the update.
-use Rattle.std.specs.Prelude.{◌≡◌, ℕ, suc, ◌<◌, true, List, [], ◌∷◌, ◌++◌, length, Option, Some, None}
+use Rattle.std.specs.Prelude.{◌≡◌, ℕ, suc, ◌<◌, true, List, [], ◌∷◌, ◌++◌, if◌then◌else◌, length, Option, Some, None}
 use Rattle.std.specs.List.{slice_get, Contains}
 use Rattle.std.specs.Option.{option_to_list}
 use Rattle.mon_header.specs.declared.class.Class.{Class}
@@ -19,6 +19,7 @@ use Rattle.mon_outcome.specs.Shaping.{shapes_of, emitted_by}
 use Rattle.mon_shows.specs.declared.near.Near.{Near}
 use Rattle.mon_shows.specs.declared.target.Target.{Target}
 use Rattle.mon_shows.specs.declared.target.Target.TheVariants.{Put, Cut, Watch}
+use Rattle.mon_shows.specs.Separation.{with_update}
 use Rattle.mon_job.specs.Jobs.{Task}
 use Rattle.mon_encode.specs.declared.case.Case.{Case}
 
@@ -37,12 +38,16 @@ of_rule class in_port place r = by_position class in_port (Some place) 0 (shapes
 abbrev pub of_miss : Class → ℕ → List Case
 of_miss class in_port = record { class = class; in_port = in_port; winner = None; emission = 0 } ∷ []
 
+-- the cases in which the rule wins; an unsure one never wins alone, since the packet may then miss
+abbrev pub of_sure : Class → ℕ → ℕ → Rule → List Case
+of_sure class in_port place r = if r.unsure then [] else of_rule class in_port place r
+
 -- the cases in which one of these rules wins, which stand from a place on, or none matches
 abbrev pub of_any : Class → ℕ → ℕ → List Rule → List Case
 of_any class in_port place [] = of_miss class in_port
-of_any class in_port place (r ∷ t) = of_rule class in_port place r ++ of_any class in_port (suc place) t
+of_any class in_port place (r ∷ t) = of_sure class in_port place r ++ of_any class in_port (suc place) t
 
--- the winners that can show an update: the rule itself that was put or is watched; where one was cut, each rule, and
+-- the winners that can show an update: the rule itself that was put or is watched; where one was cut, each sure rule, and
 -- the miss
 abbrev pub by_winner : List Rule → Target → Class → ℕ → List Case
 by_winner t (Put r old) class in_port = of_rule class in_port (place_of (identity_of r) t) r
@@ -95,10 +100,14 @@ abbrev pub given : Option Shape → Header → Emitted
 given None h = (Miss h, true)
 given (Some shape) h = emitted_by h shape
 
+-- the job's table, with its update there for sure. It has the places and the actions of the job's table
+abbrev pub present : Task → List Rule
+present j = with_update j.table j.target
+
 -- the header is of the case's class and came in at its port; the case's winner is the only one, or no rule matches; and
 -- the emission is the one of the case's position, and shows the whole packet
 pub record BelongsTo (j : Task) (c : Case) (h : Header) (e : Emission) : Type 0 where
   pub class : is_in_class c.class h ≡ true
   pub in_port : h.in_port ≡ c.in_port
-  pub winner : winners j.table h ≡ option_to_list (winner_at j.table c.winner)
-  pub emission : given (shape_of j.table c) h ≡ (e, true)
+  pub winner : winners (present j) h ≡ option_to_list (winner_at (present j) c.winner)
+  pub emission : given (shape_of (present j) c) h ≡ (e, true)

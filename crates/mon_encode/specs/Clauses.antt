@@ -1,7 +1,7 @@
--- What a case asks, as clauses over the bits of a header and two helper variables for each rule of the table without the
--- update: the first may be true only where the rule matches, the second only where it or a rule before it does.
-use Rattle.std.specs.Prelude.{ℕ, suc, ◌+◌, Bool, true, false, ◌==◌, nat_lt, ◌||◌, if◌then◌else◌, List, [], ◌∷◌, ◌++◌, map, Option, Some, None}
-use Rattle.std.specs.List.{slice_get}
+-- What a case asks, as clauses over the bits of a header and two helper variables for each sure rule of the table without
+-- the update: the first may be true only where the rule matches, the second only where it or a sure rule before it does.
+use Rattle.std.specs.Prelude.{ℕ, suc, ◌+◌, Bool, true, false, not, ◌==◌, nat_lt, ◌||◌, if◌then◌else◌, List, [], ◌∷◌, ◌++◌, map, Option, Some, None}
+use Rattle.std.specs.List.{slice_get, filter}
 use Rattle.mon_cnf.specs.declared.clause.Lit.{Lit}
 use Rattle.mon_header.specs.declared.class.Class.{Class}
 use Rattle.mon_table.specs.declared.rule.Rule.{Rule}
@@ -48,7 +48,11 @@ abbrev pub winning : Option ℕ → List Rule → List (List Lit)
 winning None t = map unmatched t
 winning (Some winner) t = won winner (slice_get t winner) t
 
--- the helpers of the rules, from variable k on, with the literal that says that a rule before them matches
+-- the rules that hide what is below them: an unsure one may be gone
+abbrev pub sures : List Rule → List Rule
+sures t = filter (λ r. not r.unsure) t
+
+-- the helpers of sure rules, from variable k on, with the literal that says that a rule before them matches
 abbrev pub chain : ℕ → List Lit → List Rule → List (List Lit)
 chain k earlier [] = []
 chain k earlier (r ∷ t) =
@@ -92,13 +96,13 @@ abbrev pub or_hidden : List Lit → Class → ℕ → Option Shape → Rule → 
 or_hidden base class in_port shape r =
     if any_unknown r.actions then base ∷ [] else or_all_apart base shape (shapes_of r.actions class in_port)
 
--- none of the rules wins in the whole table and can show the emission
+-- none of the rules wins, over the sure rules of the whole table, and can show the emission
 abbrev pub hidden : ℕ → Class → ℕ → Option Shape → List Rule → List Rule → List (List Lit)
-hidden k class in_port shape whole [] = []
-hidden k class in_port shape whole (r ∷ t) =
-    or_hidden (unmatched r ++ above k [] (rank r) whole) class in_port shape r ++ hidden k class in_port shape whole t
+hidden k class in_port shape sure [] = []
+hidden k class in_port shape sure (r ∷ t) =
+    or_hidden (unmatched r ++ above k [] (rank r) sure) class in_port shape r ++ hidden k class in_port shape sure t
 
--- the emission is no miss of a header that no rule matches
+-- the emission is no miss of a header that no sure rule matches
 abbrev pub not_missed : ℕ → Option Shape → List Rule → List (List Lit)
 not_missed k None t = matched k [] t ∷ []
 not_missed k (Some shape) t = []

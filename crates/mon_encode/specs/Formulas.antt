@@ -15,8 +15,8 @@ use Rattle.mon_job.specs.Jobs.{Task}
 use Rattle.mon_literals.specs.Bearing.{borne}
 use Rattle.mon_literals.specs.Conditions.{class_clauses}
 use Rattle.mon_encode.specs.declared.case.Case.{Case}
-use Rattle.mon_encode.specs.Cases.{winner_at, shape_of, given}
-use Rattle.mon_encode.specs.Clauses.{winning, chain, hidden, not_missed}
+use Rattle.mon_encode.specs.Cases.{winner_at, shape_of, given, present}
+use Rattle.mon_encode.specs.Clauses.{sures, winning, chain, hidden, not_missed}
 
 -- a header with nothing but a tag
 abbrev pub tagged : ℕ → Header
@@ -44,25 +44,25 @@ is_known (Some r) = not (any_unknown r.actions)
 abbrev pub comes_back : Viewing → Option Shape → Bool
 comes_back v shape = (given shape (tagged v.tag)).1 && caught v (given shape (tagged v.tag)).0
 
--- the clauses of a case in a table, and in the table without the update
+-- the clauses of a case in the table with the update for sure, and in the one without it
 abbrev pub clauses_in : Viewing → List Rule → List Rule → Case → List (List Lit)
 clauses_in v t undone c =
     class_clauses v c.class c.in_port
     ++ (winning c.winner t
-    ++ (chain header_size [] undone
-    ++ (hidden header_size c.class c.in_port (shape_of t c) undone undone
-    ++ not_missed header_size (shape_of t c) undone)))
+    ++ (chain header_size [] (sures undone)
+    ++ (hidden header_size c.class c.in_port (shape_of t c) (sures undone) undone
+    ++ not_missed header_size (shape_of t c) (sures undone))))
 
 -- the clauses of a case; only the empty one where its emission never shows anything
 unfoldable pub clauses_of : Task → Case → List (List Lit)
 clauses_of j c =
-    if is_known (winner_at j.table c.winner) && comes_back j.view (shape_of j.table c)
-    then clauses_in j.view j.table (without_update j.table j.target) c
+    if is_known (winner_at (present j) c.winner) && comes_back j.view (shape_of (present j) c)
+    then clauses_in j.view (present j) (without_update j.table j.target) c
     else [] ∷ []
 
--- the bits of a header, and two helpers for each rule of the table without the update
+-- the bits of a header, and two helpers for each sure rule of the table without the update
 abbrev pub vars_of : Task → ℕ
-vars_of j = header_size + 2 * length (without_update j.table j.target)
+vars_of j = header_size + 2 * length (sures (without_update j.table j.target))
 
 -- the formula of a case
 abbrev pub formula_of : Task → Case → Cnf
@@ -70,7 +70,7 @@ formula_of j c = record { vars = vars_of j; clauses = clauses_of j c }
 
 -- the header that an assignment bears, and what it gives in the case
 unfoldable pub decoded : Task → Case → (ℕ → Bool) → Header × Emission
-decoded j c v = (borne v, (given (shape_of j.table c) (borne v)).0)
+decoded j c v = (borne v, (given (shape_of (present j) c) (borne v)).0)
 
 -- the helpers of rules: whether each matches, and whether it or one before it does
 abbrev pub helpers : Header → Bool → List Rule → List Bool
@@ -79,4 +79,4 @@ helpers h seen (r ∷ t) = matches r.matching h ∷ (seen || matches r.matching 
 
 -- a value for each variable, by which the formula of a case bears the header
 unfoldable pub encoded : Task → Header → List Bool
-encoded j h = header_bits h ++ helpers h false (without_update j.table j.target)
+encoded j h = header_bits h ++ helpers h false (sures (without_update j.table j.target))

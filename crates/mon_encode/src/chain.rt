@@ -1,17 +1,17 @@
-//! The helper variables: two for each rule of the table without the update.
+//! The helper variables: two for each sure rule of the table without the update.
 
 ghost use Rattle.std.specs.Prelude.{◌≡◌, ◌<◌, ◌≤◌, ◌+◌, ◌*◌, ◌∷◌, [], map, length, Option, Some, None, OnOk};
 ghost use Rattle.mon_cnf.specs.declared.clause.Lit.{Lit};
 ghost use Rattle.mon_cnf.specs.Truth.{Within};
 ghost use Rattle.mon_header.specs.Places.{header_size};
 ghost use Rattle.mon_literals.specs.Clauses.{appended};
-ghost use Rattle.mon_encode.specs.Clauses.{true_at, false_at, chain, listed};
+ghost use Rattle.mon_encode.specs.Clauses.{true_at, false_at, sures, chain, listed};
 
 use crate::clauses::{false_at, true_at};
 use mon_cnf::{Clause, Formula, Lit, OutOfMemory};
 use mon_header::HEADER_BITS;
 use mon_literals::pattern;
-use mon_shows::Undone;
+use mon_shows::Altered;
 use std::alloc::Global;
 
 /// The variable of the first helper: it stands behind the bits of a header.
@@ -60,17 +60,21 @@ fn push_link(
     f.push(clause)
 }
 
-/// Appends the clauses of the helpers of all rules. They stand behind the variables of a header.
-pub(crate) fn push_chain(alloc: Global, f: &mut Formula, u: &Undone) -> Result<(), OutOfMemory>
-    requires { f.old.vars ≡ header_size + 2 * length u.now }
-    ensures pushed { OnOk result (f.new ≡ appended f.old (chain header_size [] u.now)) }
+/// Appends the clauses of the helpers of all sure rules. They stand behind the variables of a header.
+pub(crate) fn push_chain(alloc: Global, f: &mut Formula, u: &Altered) -> Result<(), OutOfMemory>
+    requires { f.old.vars ≡ header_size + 2 * length (sures u.now) }
+    ensures pushed { OnOk result (f.new ≡ appended f.old (chain header_size [] (sures u.now))) }
     ensures vars { f.new.vars ≡ f.old.vars }
 {
     f.keeps();
     let mut var = FIRST_HELPER;
     let mut earlier = None;
     for place in 0..u.len() {
-        let pattern = pattern(alloc, &u.rule(place).matching)?;
+        let rule = u.rule(place);
+        if rule.is_unsure() {
+            continue;
+        }
+        let pattern = pattern(alloc, rule.matching())?;
         push_implied(alloc, f, var, pattern.items())?;
         push_link(alloc, f, var, earlier)?;
         earlier = Some(true_at(var + 1));

@@ -7,7 +7,7 @@ ghost use Rattle.mon_encode.specs.Clauses.{true_at, false_at, unmatched};
 
 use mon_cnf::{Clause, Lit, OutOfMemory};
 use mon_literals::pattern;
-use mon_table::Rule;
+use mon_shows::Entry;
 use std::alloc::Global;
 
 /// The variable is true.
@@ -45,10 +45,10 @@ fn denied(alloc: Global, literals: &[Lit]) -> Result<Clause, OutOfMemory>
 }
 
 /// The clause that says that the rule does not match.
-pub(crate) fn unmatched(alloc: Global, rule: &Rule) -> Result<Clause, OutOfMemory>
+pub(crate) fn unmatched(alloc: Global, rule: &Entry) -> Result<Clause, OutOfMemory>
     ensures { IfOk result (λ clause. clause ≡ unmatched rule.now) }
 {
-    let pattern = pattern(alloc, &rule.matching)?;
+    let pattern = pattern(alloc, rule.matching())?;
     denied(alloc, pattern.items())
 }
 

@@ -9,6 +9,7 @@ ghost use Rattle.mon_shows.specs.Separation.{separates};
 ghost use Rattle.mon_literals.specs.Bearing.{Bears};
 ghost use Rattle.mon_encode.specs.Cases.{IsCaseOf, BelongsTo, HasWinner, shape_of, given};
 ghost use Rattle.mon_encode.specs.Formulas.{formula_of, decoded, encoded, helpers};
+ghost use Rattle.mon_encode.specs.Clauses.{sures};
 
 use crate::case::Case;
 use mon_cnf::{Bits, OutOfMemory};
@@ -16,12 +17,11 @@ use mon_header::{HEADER_BITS, Header, bit, matches};
 use mon_job::Job;
 use mon_literals::borne;
 use mon_outcome::{Emission, emission_at};
-use mon_shows::{Undone, without_update};
-use mon_table::Table;
+use mon_shows::{Altered, with_update, without_update};
 use std::alloc::Global;
 
 /// What a header of the case gives.
-fn emission_of(t: &Table, c: &Case, h: &Header) -> Emission
+fn emission_of(t: &Altered, c: &Case, h: &Header) -> Emission
     requires within { HasWinner t.now c.now.winner }
     requires class { is_in_class c.now.class h.now ≡ true }
     requires in_port { h.now.in_port ≡ c.now.in_port }
@@ -29,7 +29,7 @@ fn emission_of(t: &Table, c: &Case, h: &Header) -> Emission
     ensures { result ≡ (given (shape_of t.now c.now) h.now).0 }
 {
     match c.winner {
-        Some(place) => match emission_at(&t.rule(place).actions, h, c.emission) {
+        Some(place) => match emission_at(t.rule(u64::from(place)).actions(), h, c.emission) {
             Some(emission) => emission,
             None => Emission::Miss(*h),
         },
@@ -50,7 +50,7 @@ pub fn decode_model(j: &Job, c: &Case, values: &[bool]) -> (Header, Emission)
     j.keeps();
     c.keeps();
     let header = borne(values);
-    let emission = emission_of(&j.table, c, &header);
+    let emission = emission_of(&with_update(&j.table, &j.target), c, &header);
     (header, emission)
 }
 
@@ -65,13 +65,17 @@ fn bits_of(alloc: Global, h: &Header) -> Result<Bits, OutOfMemory>
     Ok(bits)
 }
 
-/// Appends the helpers of the rules.
-fn push_helpers(values: &mut Bits, u: &Undone, h: &Header) -> Result<(), OutOfMemory>
-    ensures { OnOk result (values.new ≡ values.old ++ helpers h.now false u.now) }
+/// Appends the helpers of the sure rules.
+fn push_helpers(values: &mut Bits, u: &Altered, h: &Header) -> Result<(), OutOfMemory>
+    ensures { OnOk result (values.new ≡ values.old ++ helpers h.now false (sures u.now)) }
 {
     let mut seen = false;
     for place in 0..u.len() {
-        let found = matches(&u.rule(place).matching, h);
+        let rule = u.rule(place);
+        if rule.is_unsure() {
+            continue;
+        }
+        let found = matches(rule.matching(), h);
         seen = seen || found;
         values.push(found)?;
         values.push(seen)?;
@@ -91,7 +95,7 @@ fn values(alloc: Global, j: &Job, h: &Header) -> Result<Bits, OutOfMemory>
 }
 
 /// A model of the case's formula that bears a header which separates and belongs to the case: the header's bits, and for
-/// each rule of the table without the update whether it matches, and whether it or one before it does.
+/// each sure rule of the table without the update whether it matches, and whether it or one before it does.
 pub fn encode_header(alloc: Global, j: &Job, c: &Case, h: &Header) -> Result<Bits, OutOfMemory>
     requires of { IsCaseOf j.now c.now }
     requires shows { (e : Emission) × (separates j.now.view j.now.table j.now.target h.now e ≡ true) × BelongsTo j.now c.now h.now e }

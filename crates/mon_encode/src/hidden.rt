@@ -4,15 +4,14 @@ ghost use Rattle.std.specs.Prelude.{◌≡◌, ◌≤◌, ◌+◌, ◌*◌, ◌+
 ghost use Rattle.mon_cnf.specs.Truth.{Within};
 ghost use Rattle.mon_header.specs.Places.{header_size};
 ghost use Rattle.mon_literals.specs.Clauses.{appended};
-ghost use Rattle.mon_encode.specs.Clauses.{listed, same_door, apart, or_apart, or_all_apart, or_hidden, unmatched, above, hidden, matched, not_missed};
+ghost use Rattle.mon_encode.specs.Clauses.{listed, same_door, apart, or_apart, or_all_apart, or_hidden, unmatched, sures, above, hidden, matched, not_missed};
 
 use crate::chain::FIRST_HELPER;
 use crate::clauses::{joined, true_at, unmatched};
 use mon_cnf::{Clause, Formula, Lit, OutOfMemory};
 use mon_literals::differ;
 use mon_outcome::{Class, Door, Shape, any_unknown, rewrites};
-use mon_shows::Undone;
-use mon_table::Rule;
+use mon_shows::{Altered, Entry};
 use std::alloc::Global;
 
 /// Whether both doors lead to one port, or to the controller.
@@ -68,22 +67,22 @@ fn push_or_hidden(
     class: Class,
     in_port: u16,
     shape: Option<Shape>,
-    rule: &Rule,
+    rule: &Entry,
 ) -> Result<(), OutOfMemory>
     requires vars { header_size ≤ f.old.vars }
     requires within { Within f.old.vars base }
     ensures pushed { OnOk result (f.new ≡ appended f.old (or_hidden base class in_port shape rule.now)) }
     ensures vars { f.new.vars ≡ f.old.vars }
 {
-    if any_unknown(rule.actions.items()) {
+    if any_unknown(rule.actions().items()) {
         return f.push(base);
     }
-    let shapes = rewrites(alloc, &rule.actions, class, in_port)?;
+    let shapes = rewrites(alloc, rule.actions(), class, in_port)?;
     push_all_apart(alloc, f, base.items(), shape, shapes.items())
 }
 
 /// The clause that says that the rule does not match, or one of a higher effective priority does.
-fn beneath(alloc: Global, rule: &Rule, above: Option<Lit>) -> Result<Clause, OutOfMemory>
+fn beneath(alloc: Global, rule: &Entry, above: Option<Lit>) -> Result<Clause, OutOfMemory>
     ensures { IfOk result (λ clause. clause ≡ unmatched rule.now ++ listed above) }
 {
     let mut clause = unmatched(alloc, rule)?;
@@ -105,13 +104,13 @@ fn higher(own: u32, before: u32, last: Option<Lit>, above: Option<Lit>) -> Optio
 pub(crate) fn push_hidden(
     alloc: Global,
     f: &mut Formula,
-    u: &Undone,
+    u: &Altered,
     class: Class,
     in_port: u16,
     shape: Option<Shape>,
 ) -> Result<(), OutOfMemory>
-    requires { f.old.vars ≡ header_size + 2 * length u.now }
-    ensures pushed { OnOk result (f.new ≡ appended f.old (hidden header_size class in_port shape u.now u.now)) }
+    requires { f.old.vars ≡ header_size + 2 * length (sures u.now) }
+    ensures pushed { OnOk result (f.new ≡ appended f.old (hidden header_size class in_port shape (sures u.now) u.now)) }
     ensures vars { f.new.vars ≡ f.old.vars }
 {
     f.keeps();
@@ -123,9 +122,13 @@ pub(crate) fn push_hidden(
     for place in 0..u.len() {
         let rule = u.rule(place);
         let own = rule.rank();
-        above = higher(own, before, last, above);
-        let base = beneath(alloc, rule, above)?;
-        push_or_hidden(alloc, f, base, class, in_port, shape, rule)?;
+        let hider = higher(own, before, last, above);
+        let base = beneath(alloc, &rule, hider)?;
+        push_or_hidden(alloc, f, base, class, in_port, shape, &rule)?;
+        if rule.is_unsure() {
+            continue;
+        }
+        above = hider;
         before = own;
         last = Some(true_at(var + 1));
         var += 2;
@@ -133,10 +136,10 @@ pub(crate) fn push_hidden(
     Ok(())
 }
 
-/// The clause that says that some rule matches: the second helper of the last one does, where there is one.
-fn matched(alloc: Global, u: &Undone, vars: u32) -> Result<Clause, OutOfMemory>
-    requires { vars ≡ header_size + 2 * length u.now }
-    ensures value { IfOk result (λ clause. clause ≡ matched header_size [] u.now) }
+/// The clause that says that some sure rule matches: the second helper of the last one does, where there is one.
+fn matched(alloc: Global, u: &Altered, vars: u32) -> Result<Clause, OutOfMemory>
+    requires { vars ≡ header_size + 2 * length (sures u.now) }
+    ensures value { IfOk result (λ clause. clause ≡ matched header_size [] (sures u.now)) }
     ensures within { IfOk result (Within vars) }
 {
     let mut clause = Clause::new(alloc);
@@ -147,15 +150,15 @@ fn matched(alloc: Global, u: &Undone, vars: u32) -> Result<Clause, OutOfMemory>
     Ok(clause)
 }
 
-/// The emission is no miss of a header that no rule matches.
+/// The emission is no miss of a header that no sure rule matches.
 pub(crate) fn push_not_missed(
     alloc: Global,
     f: &mut Formula,
-    u: &Undone,
+    u: &Altered,
     shape: Option<Shape>,
 ) -> Result<(), OutOfMemory>
-    requires { f.old.vars ≡ header_size + 2 * length u.now }
-    ensures pushed { OnOk result (f.new ≡ appended f.old (not_missed header_size shape u.now)) }
+    requires { f.old.vars ≡ header_size + 2 * length (sures u.now) }
+    ensures pushed { OnOk result (f.new ≡ appended f.old (not_missed header_size shape (sures u.now))) }
     ensures vars { f.new.vars ≡ f.old.vars }
 {
     let vars = f.vars();

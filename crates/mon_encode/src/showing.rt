@@ -6,21 +6,24 @@ ghost use Rattle.mon_encode.specs.Formulas.{tagged, is_known, comes_back};
 
 use crate::case::Case;
 use mon_header::{BLANK, Header};
-use mon_job::Job;
 use mon_list::OutOfMemory;
 use mon_outcome::{Door, Emission, Shape, any_unknown, rewrites};
-use mon_shows::{View, caught};
-use mon_table::Table;
+use mon_shows::{Altered, View, caught};
 use std::alloc::Global;
 
 /// The shape of a case's emission; a miss has none.
-pub(crate) fn shape_of(alloc: Global, t: &Table, c: &Case) -> Result<Option<Shape>, OutOfMemory>
+pub(crate) fn shape_of(alloc: Global, t: &Altered, c: &Case) -> Result<Option<Shape>, OutOfMemory>
     requires { HasWinner t.now c.now.winner }
     ensures { IfOk result (λ shape. shape ≡ shape_of t.now c.now) }
 {
     match c.winner {
         Some(place) => {
-            let shapes = rewrites(alloc, &t.rule(place).actions, c.class, c.in_port)?;
+            let shapes = rewrites(
+                alloc,
+                t.rule(u64::from(place)).actions(),
+                c.class,
+                c.in_port,
+            )?;
             Ok(shapes.items().get(c.emission as usize).copied())
         }
         None => Ok(None),
@@ -54,12 +57,12 @@ fn tagged(tag: u16) -> Header
 }
 
 /// Whether no action of the winner is unknown.
-fn is_known(t: &Table, winner: Option<u32>) -> bool
+fn is_known(t: &Altered, winner: Option<u32>) -> bool
     requires { HasWinner t.now winner }
     ensures { result ≡ is_known (winner_at t.now winner) }
 {
     match winner {
-        Some(place) => !any_unknown(t.rule(place).actions.items()),
+        Some(place) => !any_unknown(t.rule(u64::from(place)).actions().items()),
         None => true,
     }
 }
@@ -73,9 +76,9 @@ fn comes_back(view: &View, shape: Option<Shape>) -> bool
 }
 
 /// Whether the case's emission can show anything at all: no action of the winner is unknown, and it comes back whole.
-pub(crate) fn can_show(j: &Job, c: &Case, shape: Option<Shape>) -> bool
-    requires { HasWinner j.now.table c.now.winner }
-    ensures { result ≡ (is_known (winner_at j.now.table c.now.winner) && comes_back j.now.view shape) }
+pub(crate) fn can_show(view: &View, t: &Altered, c: &Case, shape: Option<Shape>) -> bool
+    requires { HasWinner t.now c.now.winner }
+    ensures { result ≡ (is_known (winner_at t.now c.now.winner) && comes_back view.now shape) }
 {
-    is_known(&j.table, c.winner) && comes_back(&j.view, shape)
+    is_known(t, c.winner) && comes_back(view, shape)
 }

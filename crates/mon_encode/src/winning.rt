@@ -9,17 +9,17 @@ ghost use Rattle.mon_encode.specs.Cases.{HasWinner};
 use crate::clauses::unmatched;
 use mon_cnf::{Formula, OutOfMemory};
 use mon_literals::{pattern, push_alone};
-use mon_table::Table;
+use mon_shows::Altered;
 use std::alloc::Global;
 
 /// No rule matches.
-fn push_none(alloc: Global, f: &mut Formula, t: &Table) -> Result<(), OutOfMemory>
+fn push_none(alloc: Global, f: &mut Formula, t: &Altered) -> Result<(), OutOfMemory>
     requires { header_size ≤ f.old.vars }
     ensures pushed { OnOk result (f.new ≡ appended f.old (map unmatched t.now)) }
     ensures vars { f.new.vars ≡ f.old.vars }
 {
     for place in 0..t.len() {
-        f.push(unmatched(alloc, t.rule(place))?)?;
+        f.push(unmatched(alloc, &t.rule(place))?)?;
     }
     Ok(())
 }
@@ -28,7 +28,7 @@ fn push_none(alloc: Global, f: &mut Formula, t: &Table) -> Result<(), OutOfMemor
 fn push_beaten(
     alloc: Global,
     f: &mut Formula,
-    t: &Table,
+    t: &Altered,
     winner: u32,
     least: u32,
 ) -> Result<(), OutOfMemory>
@@ -38,23 +38,23 @@ fn push_beaten(
 {
     for place in 0..t.len() {
         let rule = t.rule(place);
-        if place == winner || rule.rank() < least {
+        if place == u64::from(winner) || rule.rank() < least {
             continue;
         }
-        f.push(unmatched(alloc, rule)?)?;
+        f.push(unmatched(alloc, &rule)?)?;
     }
     Ok(())
 }
 
 /// The rule at the winner's place matches, and beats the others.
-fn push_won(alloc: Global, f: &mut Formula, t: &Table, winner: u32) -> Result<(), OutOfMemory>
+fn push_won(alloc: Global, f: &mut Formula, t: &Altered, winner: u32) -> Result<(), OutOfMemory>
     requires vars { header_size ≤ f.old.vars }
     requires within { winner < length t.now }
     ensures pushed { OnOk result (f.new ≡ appended f.old (winning (Some winner) t.now)) }
     ensures vars { f.new.vars ≡ f.old.vars }
 {
-    let rule = t.rule(winner);
-    let pattern = pattern(alloc, &rule.matching)?;
+    let rule = t.rule(u64::from(winner));
+    let pattern = pattern(alloc, rule.matching())?;
     push_alone(alloc, f, pattern.items())?;
     push_beaten(alloc, f, t, winner, rule.rank())
 }
@@ -63,7 +63,7 @@ fn push_won(alloc: Global, f: &mut Formula, t: &Table, winner: u32) -> Result<()
 pub(crate) fn push_winning(
     alloc: Global,
     f: &mut Formula,
-    t: &Table,
+    t: &Altered,
     winner: Option<u32>,
 ) -> Result<(), OutOfMemory>
     requires vars { header_size ≤ f.old.vars }

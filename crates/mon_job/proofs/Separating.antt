@@ -1,6 +1,7 @@
 -- The rules that overlap the match of the target's rule separate as the whole table does.
-use Rattle.std.proofs.Common.{◌≡◌, ◌↔◌, Bool, true, false, not, ◌&&◌, List, [], ◌∷◌, Some, None, refl, sym, ap, ap₂, subst, ◌∙◌, inr, ⊎_elim}
-use Rattle.std.proofs.lemmas.Bool.{and_parts, or_left, or_right, or_cases, cases_Bool, false≢true, false_from_ne_true}
+use Rattle.std.proofs.Common.{◌≡◌, ◌↔◌, Bool, true, false, not, ◌&&◌, ◌||◌, List, Some, None, refl, sym, ap, ap₂, subst, ◌∙◌, inr, ⊎_elim}
+use Rattle.std.proofs.lemmas.Bool.{cases_Bool, false≢true, false_from_ne_true}
+use Rattle.std.specs.List.{list_any}
 use Rattle.mon_header.specs.declared.header.Header.{Header}
 use Rattle.mon_header.specs.Matching.{Matching, IsNormal, matches}
 use Rattle.mon_table.specs.declared.rule.Rule.{Rule}
@@ -10,18 +11,17 @@ use Rattle.mon_table.specs.Rules.{Identity, identity_of, same_identity}
 use Rattle.mon_table.specs.Tables.{IsTable, slice}
 use Rattle.mon_table.specs.Edits.{edited, after}
 use Rattle.mon_table.specs.Laws.{IsPut}
-use Rattle.mon_table.specs.Winners.{winners}
 use Rattle.mon_table.proofs.Identities.{same-is}
-use Rattle.mon_table.proofs.Keeping.{table-filter}
-use Rattle.mon_table.proofs.Members.{after-members, members-after, after-table}
-use Rattle.mon_table.proofs.Slicing.{SameAt, winners-same, slice-winners, slice-edited}
+use Rattle.mon_table.proofs.Members.{after-members, members-after}
+use Rattle.mon_table.proofs.Slicing.{SameAt, slice-winners, slice-edited, slice-misses, slice-misses-edited}
 use Rattle.mon_outcome.specs.declared.emission.Emission.{Emission}
-use Rattle.mon_outcome.specs.Emitting.{Emitted, same_emission, any_unknown, emissions, is_among, is_among_whole, must, may}
-use Rattle.mon_header.specs.declared.action.Action.{Action}
+use Rattle.mon_outcome.specs.Emitting.{may}
 use Rattle.mon_shows.specs.declared.target.Target.{Target}
 use Rattle.mon_shows.specs.declared.target.Target.TheVariants.{Put, Cut, Watch}
 use Rattle.mon_shows.specs.Views.{Viewing, craftable, caught}
-use Rattle.mon_shows.specs.Separation.{taken_back, without_update, is_sure, is_possible, separates}
+use Rattle.mon_shows.specs.Separation.{made_unsure, taken_back, with_update, without_update, is_miss, is_certain, must_show, may_show, separates}
+use Rattle.mon_shows.specs.Under.{Under}
+use Rattle.mon_shows.proofs.Showing.{must-may-show, under-shows, never}
 use Rattle.mon_job.specs.Jobs.{Task, updated, sliced, ReplacesItsOwn}
 use Rattle.mon_job.specs.Verdicts.{IsTrueOf}
 use Rattle.mon_job.specs.declared.verdict.Says.{Says}
@@ -38,31 +38,27 @@ pub back-match : (x : Target) → ReplacesItsOwn x → (edited (taken_back x)).m
 back-match x own = ap (λ (i : Identity). i.matching) (back-identity x own)
 
 -- a header that the match takes
+with-taken : (t : List Rule) (x : Target) (h : Header) (e : Emission) → IsTable t → IsNormal (updated x).matching → matches (updated x).matching h ≡ true
+    → must_show (with_update (slice (updated x).matching t) x) h e ≡ must_show (with_update t x) h e
+with-taken t (Put r old) h e table n y =
+    ap₂ (λ (ws : List Rule) (b : Bool). is_certain ws b h e)
+    (slice-edited t r.matching h (edit.Put (made_unsure false r) None) table n y) (slice-misses-edited t r.matching h (edit.Put (made_unsure false r) None) y)
+with-taken t (Cut r) h e table n y =
+    ap₂ (λ (ws : List Rule) (b : Bool). is_certain ws b h e) (slice-winners t r.matching h table.order y) (slice-misses t r.matching h y)
+with-taken t (Watch r) h e table n y =
+    ap₂ (λ (ws : List Rule) (b : Bool). is_certain ws b h e)
+    (slice-edited t r.matching h (edit.Put (made_unsure false r) None) table n y) (slice-misses-edited t r.matching h (edit.Put (made_unsure false r) None) y)
+
 separates-taken : (v : Viewing) (t : List Rule) (x : Target) (h : Header) (e : Emission) → IsTable t → IsNormal (updated x).matching → ReplacesItsOwn x
     → matches (updated x).matching h ≡ true → separates v (slice (updated x).matching t) x h e ≡ separates v t x h e
 unfolding separates
 separates-taken v t x h e table n own y =
-    let with : winners (slice (updated x).matching t) h ≡ winners t h = slice-winners t (updated x).matching h table.order y in
+    let m = (updated x).matching in
     let normal : IsNormal (edited (taken_back x)).matching = subst IsNormal (sym (back-match x own)) n in
-    let without : winners (without_update (slice (updated x).matching t) x) h ≡ winners (without_update t x) h = slice-edited t (updated x).matching h (taken_back x) table normal y in
-    ap₂ (λ (a b : List Rule). craftable v h && (is_sure a h e && (caught v e && not (is_possible b h e)))) with without
-
--- what must be emitted can be
-among-whole : (e : Emission) (ms : List Emitted) → is_among_whole e ms ≡ true → is_among e ms ≡ true
-among-whole e [] y = y
-among-whole e (m ∷ ms) y = ⊎_elim
-    (λ a. or_left _ _ (and_parts m.1 _ a).1)
-    (λ a. or_right _ _ (among-whole e ms a))
-    (or_cases (m.1 && same_emission m.0 e) _ y)
-
-pub must-may : (actions : List Action) (h : Header) (e : Emission) → must actions h e ≡ true → may actions h e ≡ true
-unfolding must may
-must-may actions h e y = or_right _ _ (among-whole e (emissions actions h) (and_parts (not (any_unknown actions)) _ y).1)
-
-pub sure-possible : (ws : List Rule) (h : Header) (e : Emission) → is_sure ws h e ≡ true → is_possible ws h e ≡ true
-sure-possible [] h e y = y
-sure-possible (r ∷ []) h e y = or_left _ _ (must-may r.actions h e y)
-sure-possible (r ∷ s ∷ rest) h e y = absurd (false≢true y)
+    let without : may_show (without_update (slice m t) x) h e ≡ may_show (without_update t x) h e =
+    ap₂ (λ (ws : List Rule) (b : Bool). list_any (λ r. may r.actions h e) ws || (b && is_miss h e))
+    (slice-edited t m h (taken_back x) table normal y) (slice-misses-edited t m h (taken_back x) y) in
+    ap₂ (λ (a b : Bool). craftable v h && (a && (caught v e && not b))) (with-taken t x h e table n y) without
 
 -- an edit changes nothing for a header that its rule doesn't match
 pub put-edited : (y : Edit) (r : Rule) → IsPut y r → r ≡ edited y
@@ -81,29 +77,40 @@ edited-elsewhere t y h n = record {
   back = λ r m i. members-after t y r (inr (i, other-rule y h r n m));
 }
 
--- so nothing separates for one
-never : (c s k p : Bool) → (s ≡ true → p ≡ true) → (c && (s && (k && not p))) ≡ false
-never false s k p f = refl
-never true false k p f = refl
-never true true false p f = refl
-never true true true p f = rw (f refl) refl
+pub with-elsewhere : (t : List Rule) (x : Target) (h : Header) → matches (updated x).matching h ≡ false → SameAt h (with_update t x) t
+with-elsewhere t (Put r old) h n = edited-elsewhere t (edit.Put (made_unsure false r) None) h n
+with-elsewhere t (Cut r) h n = record { there = λ r m i. i; back = λ r m i. i }
+with-elsewhere t (Watch r) h n = edited-elsewhere t (edit.Put (made_unsure false r) None) h n
 
-separates-never : (v : Viewing) (t : List Rule) (x : Target) (h : Header) (e : Emission) → IsTable t → IsNormal (updated x).matching → ReplacesItsOwn x
+pub without-elsewhere : (t : List Rule) (x : Target) (h : Header) → ReplacesItsOwn x → matches (updated x).matching h ≡ false → SameAt h (without_update t x) t
+without-elsewhere t x h own n = edited-elsewhere t (taken_back x) h (subst (λ (w : Matching). matches w h ≡ false) (sym (back-match x own)) n)
+
+-- two tables that agree with a third for a header
+pub both-under : (h : Header) (t a b : List Rule) → SameAt h a t → SameAt h b t → Under h a b
+both-under h t a b p q = record {
+  like = λ r m i. record { like = r; has = q.back r m (p.there r m i); identity = refl; actions = refl };
+  sure = λ s m sure j. record { sure = s; has = p.back s m (q.there s m j); is_sure = sure; identity = refl };
+}
+
+-- so nothing separates for one
+pub unmatched-shows : (t : List Rule) (x : Target) (h : Header) (e : Emission) → ReplacesItsOwn x → matches (updated x).matching h ≡ false
+    → must_show (with_update t x) h e ≡ true → may_show (without_update t x) h e ≡ true
+unmatched-shows t x h e own m y =
+    under-shows h (with_update t x) (without_update t x) e
+    (both-under h t (with_update t x) (without_update t x) (with-elsewhere t x h m) (without-elsewhere t x h own m))
+    (must-may-show (with_update t x) h e y)
+
+separates-never : (v : Viewing) (t : List Rule) (x : Target) (h : Header) (e : Emission) → ReplacesItsOwn x
     → matches (updated x).matching h ≡ false → separates v t x h e ≡ false
 unfolding separates
-separates-never v t x h e table n own m =
-    let normal : IsNormal (edited (taken_back x)).matching = subst IsNormal (sym (back-match x own)) n in
-    let unmatched : matches (edited (taken_back x)).matching h ≡ false = subst (λ (w : Matching). matches w h ≡ false) (sym (back-match x own)) m in
-    let same : winners (without_update t x) h ≡ winners t h =
-    winners-same h (without_update t x) t (after-table t (taken_back x) table normal).order table.order (edited-elsewhere t (taken_back x) h unmatched) in
-    never (craftable v h) (is_sure (winners t h) h e) (caught v e) (is_possible (winners (without_update t x) h) h e)
-    (λ y. ap (λ (ws : List Rule). is_possible ws h e) same ∙ sure-possible (winners t h) h e y)
+separates-never v t x h e own m =
+    never (craftable v h) (must_show (with_update t x) h e) (caught v e) (may_show (without_update t x) h e) (unmatched-shows t x h e own m)
 
 pub slice-separates : (v : Viewing) (t : List Rule) (x : Target) (h : Header) (e : Emission) → IsTable t → IsNormal (updated x).matching → ReplacesItsOwn x
     → separates v (slice (updated x).matching t) x h e ≡ separates v t x h e
 slice-separates v t x h e table n own = ⊎_elim
     (λ y. separates-taken v t x h e table n own y)
-    (λ m. separates-never v (slice (updated x).matching t) x h e (table-filter _ t table) n own m ∙ sym (separates-never v t x h e table n own m))
+    (λ m. separates-never v (slice (updated x).matching t) x h e own m ∙ sym (separates-never v t x h e own m))
     (cases_Bool (matches (updated x).matching h))
 
 -- and a verdict is true of both or of neither

@@ -1,5 +1,5 @@
 -- The numbers of a certificate fit their fields.
-use Rattle.std.proofs.Common.{◌≡◌, true, not, List, [], ◌∷◌, ◌++◌, sym, subst, ⊎_elim, Result, Ok, Err}
+use Rattle.std.proofs.Common.{◌≡◌, true, not, List, [], ◌∷◌, ◌++◌, refl, sym, subst, ⊎_elim, Result, Ok, Err}
 use Rattle.std.specs.Prelude.{◌&&◌, IfOk}
 use Rattle.std.specs.List.{AllByRecursion}
 use Rattle.std.proofs.lemmas.Bool.{and_parts, or_cases, false≢true}
@@ -13,7 +13,7 @@ use Rattle.mon_header.specs.Matching.{IsNormal}
 use Rattle.mon_header.proofs.Classing.{class-range}
 use Rattle.mon_table.specs.declared.rule.Rule.{Rule}
 use Rattle.mon_table.specs.Tables.{IsTable}
-use Rattle.mon_table.specs.Winners.{winners}
+use Rattle.mon_table.specs.Winners.{winners, may_miss}
 use Rattle.mon_table.proofs.Listing.{has-all}
 use Rattle.mon_outcome.specs.declared.emission.Emission.{Emission}
 use Rattle.mon_outcome.specs.declared.emission.Emission.TheVariants.{Port, Controller, Miss}
@@ -25,9 +25,9 @@ use Rattle.mon_certificate.specs.declared.certificate.Certificate.TheVariants.{P
 use Rattle.mon_certificate_file.specs.CertificateFile.{IsEmissionInRange, IsCertificateInRange}
 use Rattle.mon_shows.specs.declared.target.Target.TheVariants.{Watch}
 use Rattle.mon_shows.specs.Views.{Viewing}
-use Rattle.mon_shows.specs.Separation.{is_sure, separates}
+use Rattle.mon_shows.specs.Separation.{with_update, is_certain, separates}
 use Rattle.mon_encode.proofs.Covering.{separated, crafted}
-use Rattle.mon_encode.proofs.Updating.{own-winner}
+use Rattle.mon_encode.proofs.Updating.{own_rule, own-winner}
 use Rattle.mon_solve.specs.Accepting.{CertificateIsTrue}
 use Rattle.mon_plan.specs.Planning.{watch_of, IsCertificate}
 use Rattle.mon_text.proofs.Growing.{all_push}
@@ -58,8 +58,10 @@ probe-range v t r h e table i f y =
     let s = separated v t (Watch r) h e y in
     let k = crafted v h s.crafted in
     let normal : IsNormal r.matching = has-all (λ x. IsNormal x.matching) t r table.normal i in
-    let lone : winners t h ≡ r ∷ [] = own-winner t (Watch r) h e table normal tt i s.sure s.impossible in
-    let sure : must r.actions h e ≡ true = subst (λ (ws : List Rule). is_sure ws h e ≡ true) lone s.sure in (
+    let p = with_update t (Watch r) in
+    let lone : winners p h ≡ own_rule (Watch r) ∷ [] = own-winner t (Watch r) h e table normal normal tt refl s.sure s.impossible in
+    let certain : is_certain (own_rule (Watch r) ∷ []) (may_miss p h) h e ≡ true = subst (λ (ws : List Rule). is_certain ws (may_miss p h) h e ≡ true) lone s.sure in
+    let sure : must r.actions h e ≡ true = (and_parts (not (may_miss p h)) _ certain).1 in (
       class-range k.class h k.is_class,
       emission-range k.class e (must-class r.actions k.class h e f k.is_class sure),
     )

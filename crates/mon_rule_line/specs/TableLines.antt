@@ -8,7 +8,7 @@ use Rattle.mon_rule_line.specs.RuleWords.{rule_words}
 -- the session and the words of a rule
 abbrev pub table_line : ℕ → Rule → List ℕ
 table_line session rule =
-    codes "table " ++ (decimal session ++ (codes " " ++ rule_words rule.priority (matches.spelled rule.matching) (actions.spelled rule.actions)))
+    codes "table " ++ (decimal session ++ (codes " " ++ rule_words rule.priority (matches.spelled rule.matching) (actions.spelled rule.actions) rule.unsure))
 
 -- a line for each rule of a table, in table order
 abbrev pub table_lines : ℕ → List Rule → List ℕ

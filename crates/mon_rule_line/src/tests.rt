@@ -20,12 +20,13 @@ fn writes_a_line_for_a_rule(rt: HostRuntime) -> Result<(), Fail> {
         10, 0, 0, 1, 10, 0, 0, 2, 0, 1, 0, 2,
     ];
     let to_port_2: [u8; 8] = [0, 0, 0, 8, 0, 2, 0, 0];
-    let cases: [(u64, [u8; 40], u16, &[u8], &str); 3] = [
+    let cases: [(u64, [u8; 40], u16, &[u8], bool, &str); 4] = [
         (
             0,
             network,
             100,
             &to_port_2,
+            false,
             "table 0 100 003220ef000000000000000000000000000000000000080000000000000000000a00000000000000 0000000800020000\n",
         ),
         (
@@ -33,6 +34,7 @@ fn writes_a_line_for_a_rule(rt: HostRuntime) -> Result<(), Fail> {
             network,
             65535,
             b"",
+            false,
             "table 63 65535 003220ef000000000000000000000000000000000000080000000000000000000a00000000000000 -\n",
         ),
         (
@@ -40,14 +42,24 @@ fn writes_a_line_for_a_rule(rt: HostRuntime) -> Result<(), Fail> {
             packet,
             0,
             &to_port_2,
+            false,
             "table 18446744073709551615 0 000000000001020000000001020000000002006400000800001100000a0000010a00000200010002 0000000800020000\n",
         ),
+        (
+            7,
+            network,
+            100,
+            &to_port_2,
+            true,
+            "table 7 100 003220ef000000000000000000000000000000000000080000000000000000000a00000000000000 0000000800020000 unsure\n",
+        ),
     ];
-    for (session, matching, priority, actions, line) in cases {
+    for (session, matching, priority, actions, unsure, line) in cases {
         let rule = Rule {
             matching: read_match(&matching),
             priority,
             actions: read_actions(alloc, actions)?,
+            unsure,
         };
         assert_eq!(rt; table_line(alloc, session, &rule)?.as_str(), line);
     }

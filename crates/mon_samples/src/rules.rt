@@ -30,6 +30,7 @@ pub fn sending(
         matching,
         priority,
         actions,
+        unsure: false,
     })
 }
 

@@ -2,4 +2,5 @@ pub mod Seeing
 pub mod Keeping
 pub mod Following
 pub mod Looking
+pub mod Showing
 pub mod Undoing

@@ -1,17 +1,17 @@
 -- The table without an update, as the parts of the table around a place.
-use Rattle.std.proofs.Common.{◌≡◌, ℕ, zero, suc, ◌+◌, ◌<◌, ◌≤◌, true, cond, List, [], ◌∷◌, ◌++◌, length, take, drop, set, Some, None, Option, refl, sym, ap, ◌∙◌, arith, add-one, ⊎_elim}
+use Rattle.std.proofs.Common.{◌≡◌, ℕ, zero, suc, ◌+◌, ◌<◌, ◌≤◌, Bool, true, false, ◌||◌, cond, List, [], ◌∷◌, ◌++◌, length, take, drop, set, Some, None, Option, refl, sym, ap, ◌∙◌, arith, add-one, ⊎_elim}
 use Rattle.std.proofs.lemmas.Bool.{cases_Bool, cases_lt, false≢true}
 use Rattle.std.proofs.lemmas.List.{take-append-drop}
 use Rattle.mon_header.specs.Matching.{IsNormal}
 use Rattle.mon_table.specs.declared.rule.Rule.{Rule}
 use Rattle.mon_table.specs.declared.edit.Edit.TheVariants as edit
-use Rattle.mon_table.specs.Edits.{undone}
+use Rattle.mon_table.specs.Edits.{after, undone}
 use Rattle.mon_table.specs.Places.{place_of, stands_at}
 use Rattle.mon_table.specs.Rules.{Identity, identity_of}
 use Rattle.mon_table.specs.Tables.{IsTable, without, with_rule}
 use Rattle.mon_table.proofs.Placing.{stands-past, found-set, found-remove, absent-without, absent-insert}
 use Rattle.mon_shows.specs.declared.target.Target.TheVariants as target
-use Rattle.mon_shows.specs.Separation.{without_update}
+use Rattle.mon_shows.specs.Separation.{made_unsure, without_update}
 
 set-parts : (t : List Rule) (n : ℕ) (r : Rule) → n < length t → set t n r ≡ take n t ++ (r ∷ drop (suc n) t)
 set-parts [] n r lt = absurd (omega arith)
@@ -52,6 +52,10 @@ counted-in r t n m table normal e f =
     ∙ (ap (λ (k : ℕ). take k t ++ (r ∷ drop (cond (stands_at (identity_of r) k t) (k + 1) k) t)) e ∙ with-there r t table normal)
 
 -- a put taken back
-pub put-undone : (t : List Rule) (r : Rule) (old : Option Rule) → without_update t (target.Put r old) ≡ undone t (edit.Put r old)
-put-undone t r None = refl
-put-undone t r (Some old) = refl
+or-sure : (a b : Bool) → b ≡ false → (a || b) ≡ a
+or-sure true b e = refl
+or-sure false b e = e
+
+pub put-undone : (t : List Rule) (r : Rule) (old : Option Rule) → r.unsure ≡ false → without_update t (target.Put r old) ≡ undone t (edit.Put r old)
+put-undone t r None sure = refl
+put-undone t r (Some old) sure = ap (λ (b : Bool). after t (edit.Put (made_unsure b old) (Some r))) (or-sure old.unsure r.unsure sure)

@@ -2,3 +2,4 @@ pub mod Links
 pub mod Views
 pub mod Separation
 pub mod Scanning
+pub mod Under

@@ -4,4 +4,5 @@ pub mod Keeping
 pub mod Listing
 pub mod Members
 pub mod Slicing
+pub mod Vanishing
 pub mod Undoing

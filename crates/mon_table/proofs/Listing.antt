@@ -1,9 +1,9 @@
 -- Places that pass a test, and which of them win for a header.
 use Rattle.std.proofs.Common.{◌≡◌, ℕ, zero, suc, ◌+◌, ◌<◌, ◌≤◌, Bool, true, false, cond, not, ◌&&◌, ◌||◌, List, [], ◌∷◌, ◌++◌, length, get_or, drop, Some, None, refl, sym, ap, subst, ◌∙◌, arith, inl, inr, ⊎_elim, append_assoc, add-one, drop-cons}
-use Rattle.std.specs.Prelude.{◌==◌, nat_le}
+use Rattle.std.specs.Prelude.{nat_le}
 use Rattle.std.specs.List.{list_all, AllByRecursion}
 use Rattle.std.proofs.lemmas.List.{append-nil, drop_all}
-use Rattle.std.proofs.lemmas.Bool.{and_parts, and_from, and_left, or_left, or_right, cases_Bool, not_from_false, false≢true, eqb-true, eq-eqb, le-leb, leb-true, ne_eqb}
+use Rattle.std.proofs.lemmas.Bool.{and_parts, and_from, and_left, and_right, or_right, cases_Bool, false≢true, le-leb, lt-leb, leb-true}
 use Rattle.mon_list.specs.Has.{Has}
 use Rattle.mon_header.specs.declared.header.Header.{Header}
 use Rattle.mon_header.specs.Matching.{matches}
@@ -11,7 +11,7 @@ use Rattle.mon_table.specs.declared.rule.Rule.{Rule}
 use Rattle.mon_table.specs.Rules.{identity_of, rank, comes_before}
 use Rattle.mon_table.specs.Tables.{InOrder, places_from, places}
 use Rattle.mon_table.specs.Winners.{is_highest, wins}
-use Rattle.mon_table.specs.Places.{top_rank, is_at_rank}
+use Rattle.mon_table.specs.Places.{hides, least_rank, is_from_rank}
 use Rattle.mon_table.proofs.Identities.{comes_before-falls}
 use Rattle.std.specs.Cmp.{both_ways}
 
@@ -55,22 +55,22 @@ order-drop [] (suc n) o = o
 order-drop (r ∷ t) zero o = o
 order-drop (r ∷ t) (suc n) o = order-drop t n o.1
 
-low-rest : (h : Header) (top : ℕ) (r : Rule) (t : List Rule) → rank r < top → AllByRecursion (λ s. comes_before (identity_of r) (identity_of s) ≡ true) t
-    → AllByRecursion (λ s. is_at_rank h top s ≡ false) t
-low-rest h top r [] low a = tt
-low-rest h top r (s ∷ t) low a =
+low-rest : (h : Header) (least : ℕ) (r : Rule) (t : List Rule) → rank r < least → AllByRecursion (λ s. comes_before (identity_of r) (identity_of s) ≡ true) t
+    → AllByRecursion (λ s. is_from_rank h least s ≡ false) t
+low-rest h least r [] low a = tt
+low-rest h least r (s ∷ t) low a =
     let falls : rank s ≤ rank r = comes_before-falls (identity_of r) (identity_of s) a.0 in
-    (and_left _ _ (ne_eqb (rank s) top (λ e. omega arith)), low-rest h top r t low a.1)
+    (and_left _ _ (lt-leb least (rank s) (omega arith)), low-rest h least r t low a.1)
 
-pub places-stop : (h : Header) (top : ℕ) (t : List Rule) (found all : List ℕ) (n : ℕ) (r : Rule) → n < length t → r ≡ get_or t n r → InOrder t → rank r < top
-    → found ++ places_from n (is_at_rank h top) (drop n t) ≡ all → found ≡ all
-places-stop h top t found all n r lt e o low p =
+pub places-stop : (h : Header) (least : ℕ) (t : List Rule) (found all : List ℕ) (n : ℕ) (r : Rule) → n < length t → r ≡ get_or t n r → InOrder t → rank r < least
+    → found ++ places_from n (is_from_rank h least) (drop n t) ≡ all → found ≡ all
+places-stop h least t found all n r lt e o low p =
     let rest : drop n t ≡ r ∷ drop (suc n) t = drop-cons t n r lt ∙ ap (λ (s : Rule). s ∷ drop (suc n) t) (sym e) in
     let order : InOrder (r ∷ drop (suc n) t) = subst InOrder rest (order-drop t n o) in
-    let none : AllByRecursion (λ s. is_at_rank h top s ≡ false) (r ∷ drop (suc n) t) =
-    (and_left _ _ (ne_eqb (rank r) top (λ f. omega arith)), low-rest h top r (drop (suc n) t) low order.0) in
-    let step : found ++ places_from n (is_at_rank h top) (r ∷ drop (suc n) t) ≡ all = subst (λ (s : List Rule). found ++ places_from n (is_at_rank h top) s ≡ all) rest p in
-    sym (append-nil found) ∙ (ap (λ (s : List ℕ). found ++ s) (sym (places-none (is_at_rank h top) n (r ∷ drop (suc n) t) none)) ∙ step)
+    let none : AllByRecursion (λ s. is_from_rank h least s ≡ false) (r ∷ drop (suc n) t) =
+    (and_left _ _ (lt-leb least (rank r) low), low-rest h least r (drop (suc n) t) low order.0) in
+    let step : found ++ places_from n (is_from_rank h least) (r ∷ drop (suc n) t) ≡ all = subst (λ (s : List Rule). found ++ places_from n (is_from_rank h least) s ≡ all) rest p in
+    sym (append-nil found) ∙ (ap (λ (s : List ℕ). found ++ s) (sym (places-none (is_from_rank h least) n (r ∷ drop (suc n) t) none)) ∙ step)
 
 -- members
 pub all-has : (P : Rule → Type 0) (t : List Rule) → ((r : Rule) → Has t r → P r) → AllByRecursion P t
@@ -89,96 +89,61 @@ pub list_all-has : (p : Rule → Bool) (t : List Rule) → ((r : Rule) → Has t
 list_all-has p [] f = refl
 list_all-has p (r ∷ t) f = and_from _ _ (f r (inl refl)) (list_all-has p t (λ s i. f s (inr i)))
 
--- the first rule that matches has the highest rank of those that do
-top-none : (h : Header) (t : List Rule) → top_rank h t ≡ None → AllByRecursion (λ r. matches r.matching h ≡ false) t
-top-none h [] e = tt
-top-none h (r ∷ t) e = ⊎_elim
-    (λ m. absurd (let f : top_rank h (r ∷ t) ≡ Some (rank r) = rw m refl in let g : Some (rank r) ≡ None = sym f ∙ e in cc))
-    (λ m. (m, top-none h t (let f : top_rank h (r ∷ t) ≡ top_rank h t = rw m refl in sym f ∙ e)))
-    (cases_Bool (matches r.matching h))
+-- from the least rank that may win on, no sure rule that matches is higher
+abbrev is_low : Header → ℕ → Rule → Bool
+is_low h n s = not (matches s.matching h) || (s.unsure || nat_le (rank s) n)
 
-below-first : (r : Rule) (t : List Rule) (n : ℕ) → rank r ≡ n → AllByRecursion (λ s. comes_before (identity_of r) (identity_of s) ≡ true) t
-    → AllByRecursion (λ s. rank s ≤ n) t
-below-first r [] n e a = tt
-below-first r (s ∷ t) n e a =
+low-behind : (h : Header) (n : ℕ) (r : Rule) (t : List Rule) → rank r ≤ n → AllByRecursion (λ s. comes_before (identity_of r) (identity_of s) ≡ true) t
+    → list_all (is_low h n) t ≡ true
+low-behind h n r [] le a = refl
+low-behind h n r (s ∷ t) le a =
     let falls : rank s ≤ rank r = comes_before-falls (identity_of r) (identity_of s) a.0 in
-    (omega arith, below-first r t n e a.1)
+    and_from (is_low h n s) (list_all (is_low h n) t) (or_right (not (matches s.matching h)) (s.unsure || nat_le (rank s) n) (or_right s.unsure (nat_le (rank s) n) (le-leb (rank s) n (omega arith)))) (low-behind h n r t le a.1)
 
-weaker : (P Q : Rule → Type 0) (t : List Rule) → ((r : Rule) → P r → Q r) → AllByRecursion P t → AllByRecursion Q t
-weaker P Q [] f a = tt
-weaker P Q (r ∷ t) f a = (f r a.0, weaker P Q t f a.1)
+least-hidden : (h : Header) (r : Rule) (t : List Rule) → hides h r ≡ true → least_rank h (r ∷ t) ≡ rank r
+least-hidden h r t y = rw y refl
 
-top-high : (h : Header) (n : ℕ) (t : List Rule) → InOrder t → top_rank h t ≡ Some n → AllByRecursion (λ r. matches r.matching h ≡ true → rank r ≤ n) t
-top-high h n [] o e = tt
-top-high h n (r ∷ t) o e = ⊎_elim
-    (λ m.
-    let f : top_rank h (r ∷ t) ≡ Some (rank r) = rw m refl in
-    let g : Some (rank r) ≡ Some n = sym f ∙ e in
-    let same : rank r ≡ n = cc in
-    (λ _. omega arith, weaker (λ s. rank s ≤ n) (λ s. matches s.matching h ≡ true → rank s ≤ n) t (λ s le _. le) (below-first r t n same o.0)))
-    (λ m. (λ y. absurd (false≢true (sym m ∙ y)), top-high h n t o.1 (let f : top_rank h (r ∷ t) ≡ top_rank h t = rw m refl in sym f ∙ e)))
-    (cases_Bool (matches r.matching h))
+least-passed : (h : Header) (r : Rule) (t : List Rule) → hides h r ≡ false → least_rank h (r ∷ t) ≡ least_rank h t
+least-passed h r t n = rw n refl
 
--- some rule that matches has it
-record Top (h : Header) (n : ℕ) (t : List Rule) : Type 0 where
-  first : Rule
-  has : Has t first
-  taken : matches first.matching h ≡ true
-  high : rank first ≡ n
+low-hidden : (m u low : Bool) → (not u && m) ≡ true → (not m || (u || low)) ≡ low
+low-hidden true true low y = absurd (false≢true y)
+low-hidden true false low y = refl
+low-hidden false u low y = absurd (false≢true (sym (and_right (not u) false refl) ∙ y))
 
-top-is : (h : Header) (n : ℕ) (t : List Rule) → top_rank h t ≡ Some n → Top h n t
-top-is h n [] e = absurd (let f : ⊥ = cc in f)
-top-is h n (r ∷ t) e = ⊎_elim
-    (λ m.
-    let f : top_rank h (r ∷ t) ≡ Some (rank r) = rw m refl in
-    let g : Some (rank r) ≡ Some n = sym f ∙ e in
-    record { first = r; has = inl refl; taken = m; high = cc })
-    (λ m.
-    let rest = top-is h n t (let f : top_rank h (r ∷ t) ≡ top_rank h t = rw m refl in sym f ∙ e) in
-    record { first = rest.first; has = inr rest.has; taken = rest.taken; high = rest.high })
-    (cases_Bool (matches r.matching h))
+low-passed : (m u low : Bool) → (not u && m) ≡ false → (not m || (u || low)) ≡ true
+low-passed true true low n = refl
+low-passed true false low n = absurd (false≢true (sym n))
+low-passed false u low n = refl
 
-highest-at : (h : Header) (n : ℕ) (t : List Rule) (r : Rule) → AllByRecursion (λ s. matches s.matching h ≡ true → rank s ≤ n) t → rank r ≡ n → is_highest t h r ≡ true
+least-low : (h : Header) (n : ℕ) (t : List Rule) → InOrder t → nat_le (least_rank h t) n ≡ list_all (is_low h n) t
+least-low h n [] o = le-leb 0 n (omega arith)
+least-low h n (r ∷ t) o = ⊎_elim
+    (λ y.
+    ap (λ (k : ℕ). nat_le k n) (least-hidden h r t y)
+    ∙ (both_ways (nat_le (rank r) n) (nat_le (rank r) n && list_all (is_low h n) t)
+    (λ f. and_from _ _ f (low-behind h n r t (leb-true (rank r) n f) o.0))
+    (λ f. (and_parts (nat_le (rank r) n) _ f).0)
+    ∙ ap (λ (b : Bool). b && list_all (is_low h n) t) (sym (low-hidden (matches r.matching h) r.unsure (nat_le (rank r) n) y))))
+    (λ z.
+    ap (λ (k : ℕ). nat_le k n) (least-passed h r t z)
+    ∙ (least-low h n t o.1
+    ∙ ap (λ (b : Bool). b && list_all (is_low h n) t) (sym (low-passed (matches r.matching h) r.unsure (nat_le (rank r) n) z))))
+    (cases_Bool (hides h r))
+
+swapped : (a b m : Bool) → a ≡ b → (a && m) ≡ (m && b)
+swapped true b true e = e
+swapped false b true e = e
+swapped true b false e = refl
+swapped false b false e = refl
+
+pub wins-from : (h : Header) (t : List Rule) (r : Rule) → InOrder t → is_from_rank h (least_rank h t) r ≡ wins t h r
 unfolding is_highest
-highest-at h n t r a e = list_all-has (λ s. not (matches s.matching h) || nat_le (rank s) (rank r)) t (λ s i. ⊎_elim
-    (λ m. or_right _ _ (le-leb (rank s) (rank r) (let le : rank s ≤ n = has-all (λ s. matches s.matching h ≡ true → rank s ≤ n) t s a i m in omega arith)))
-    (λ m. or_left _ _ (not_from_false _ m))
-    (cases_Bool (matches s.matching h)))
+wins-from h t r o = swapped (nat_le (least_rank h t) (rank r)) (is_highest t h r) (matches r.matching h) (least-low h (rank r) t o)
 
-at-highest : (h : Header) (n : ℕ) (t : List Rule) (r : Rule) → Top h n t → is_highest t h r ≡ true → n ≤ rank r
-unfolding is_highest
-at-highest h n t r top e =
-    let p : (not (matches top.first.matching h) || nat_le (rank top.first) (rank r)) ≡ true =
-    has-list_all (λ s. not (matches s.matching h) || nat_le (rank s) (rank r)) t top.first e top.has in
-    let q : nat_le (rank top.first) (rank r) ≡ true = rw top.taken at p in
-    let le : rank top.first ≤ rank r = leb-true (rank top.first) (rank r) q in
-    let high : rank top.first ≡ n = top.high in
-    omega arith
+pub places-win : (h : Header) (t : List Rule) → InOrder t → places (is_from_rank h (least_rank h t)) t ≡ places (wins t h) t
+places-win h t o = places-same (is_from_rank h (least_rank h t)) (wins t h) 0 t (all-has (λ r. is_from_rank h (least_rank h t) r ≡ wins t h r) t (λ r i. wins-from h t r o))
 
-swapped : (a b m : Bool) → (m ≡ true → a ≡ b) → (a && m) ≡ (m && b)
-swapped true b true f = f refl
-swapped false b true f = f refl
-swapped true b false f = refl
-swapped false b false f = refl
-
-wins-at : (h : Header) (n : ℕ) (t : List Rule) → InOrder t → top_rank h t ≡ Some n → (r : Rule) → Has t r → is_at_rank h n r ≡ wins t h r
-wins-at h n t o e r i =
-    let high = top-high h n t o e in
-    swapped (rank r == n) (is_highest t h r) (matches r.matching h) (λ m. both_ways (rank r == n) (is_highest t h r)
-    (λ s. highest-at h n t r high (eqb-true (rank r) n s))
-    (λ f.
-    let above : n ≤ rank r = at-highest h n t r (top-is h n t e) f in
-    let below : rank r ≤ n = has-all (λ s. matches s.matching h ≡ true → rank s ≤ n) t r high i m in
-    eq-eqb (rank r) n (omega arith)))
-
-pub places-win : (h : Header) (n : ℕ) (t : List Rule) → InOrder t → top_rank h t ≡ Some n → places (is_at_rank h n) t ≡ places (wins t h) t
-places-win h n t o e = places-same (is_at_rank h n) (wins t h) 0 t (all-has (λ r. is_at_rank h n r ≡ wins t h r) t (wins-at h n t o e))
-
-pub places-miss : (h : Header) (t : List Rule) → top_rank h t ≡ None → places (wins t h) t ≡ []
-places-miss h t e = places-none (wins t h) 0 t (weaker (λ r. matches r.matching h ≡ false) (λ r. wins t h r ≡ false) t (λ r m. and_left _ _ m) (top-none h t e))
-
-pub winners-some : (h : Header) (n : ℕ) (t s u : List Rule) → InOrder t → s ≡ t → u ≡ t → top_rank h s ≡ Some n → places (is_at_rank h n) u ≡ places (wins t h) t
-winners-some h n t s u o e f g = ap (places (is_at_rank h n)) f ∙ places-win h n t o (ap (top_rank h) (sym e) ∙ g)
-
-pub winners-none : (h : Header) (t s : List Rule) → s ≡ t → top_rank h s ≡ None → [] ≡ places (wins t h) t
-winners-none h t s e g = sym (places-miss h t (ap (top_rank h) (sym e) ∙ g))
+pub winners-from : (h : Header) (n : ℕ) (t s u : List Rule) → InOrder t → s ≡ t → u ≡ t → n ≡ least_rank h s → places (is_from_rank h n) u ≡ places (wins t h) t
+winners-from h n t s u o e f g =
+    ap (places (is_from_rank h n)) f ∙ (ap (λ (k : ℕ). places (is_from_rank h k) t) (g ∙ ap (least_rank h) e) ∙ places-win h t o)

@@ -14,7 +14,7 @@ use Rattle.mon_table.proofs.Listing.{has-all}
 use Rattle.mon_table.proofs.Members.{after-members, members-after, after-table, one-rule, one-list}
 
 -- what looking for an identity finds
-none-there : (i : Identity) (t : List Rule) (r : Rule) → rule_of i t ≡ None → Has t r → same_identity (identity_of r) i ≡ false
+pub none-there : (i : Identity) (t : List Rule) (r : Rule) → rule_of i t ≡ None → Has t r → same_identity (identity_of r) i ≡ false
 none-there i [] r e h = absurd h
 none-there i (s ∷ t) r e h =
     elim (same_identity (identity_of s) i) as (λ b. same_identity (identity_of s) i ≡ b → cond b (Some s) (rule_of i t) ≡ None → same_identity (identity_of r) i ≡ false) [

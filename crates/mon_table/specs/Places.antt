@@ -1,7 +1,5 @@
 -- Where a rule stands, or would stand.
-use Rattle.std.specs.Prelude.{ℕ, zero, suc, Bool, false, ◌==◌, ◌&&◌, if◌then◌else◌, List, [], ◌∷◌, Option}
-use Rattle.std.specs.List.{find}
-use Rattle.std.specs.Option.{option_map}
+use Rattle.std.specs.Prelude.{ℕ, zero, suc, Bool, false, not, nat_le, ◌&&◌, if◌then◌else◌, List, [], ◌∷◌}
 use Rattle.mon_header.specs.declared.header.Header.{Header}
 use Rattle.mon_header.specs.Matching.{matches}
 use Rattle.mon_table.specs.declared.rule.Rule.{Rule}
@@ -18,10 +16,16 @@ stands_at i n [] = false
 stands_at i zero (r ∷ t) = same_identity (identity_of r) i
 stands_at i (suc n) (r ∷ t) = stands_at i n t
 
--- the effective priority of the first rule that matches the header
-abbrev pub top_rank : Header → List Rule → Option ℕ
-top_rank h t = option_map rank (find (λ r. matches r.matching h) t)
+-- the rule is sure, and matches the header: so it hides what is below it
+abbrev pub hides : Header → Rule → Bool
+hides h r = not r.unsure && matches r.matching h
 
--- the rule matches the header, and has this effective priority
-abbrev pub is_at_rank : Header → ℕ → Rule → Bool
-is_at_rank h n r = (rank r == n) && matches r.matching h
+-- the lowest effective priority that may win for the header: that of the first sure rule that matches, and 0 where none
+-- does
+abbrev pub least_rank : Header → List Rule → ℕ
+least_rank h [] = 0
+least_rank h (r ∷ t) = if hides h r then rank r else least_rank h t
+
+-- the rule matches the header, and has this effective priority or a higher one
+abbrev pub is_from_rank : Header → ℕ → Rule → Bool
+is_from_rank h n r = nat_le n (rank r) && matches r.matching h

@@ -9,13 +9,14 @@ ghost use Rattle.mon_table.specs.Rules.{identity_of, rank, same_identity, comes_
 use mon_header::{Actions, Match, OutOfMemory, effective, match_before, overlaps, same_match};
 use std::alloc::Global;
 
-/// An entry of a flow table (OpenFlow 1.0.0, flow table): which packets it takes, its priority field, and what it does
-/// to them.
+/// An entry of a flow table (OpenFlow 1.0.0, flow table): which packets it takes, its priority field, what it does to
+/// them, and whether it is unsure: whether a timeout may take it out of the table at any moment.
 #[derive(Drop)]
 pub struct Rule {
     pub matching: Match,
     pub priority: u16,
     pub actions: Actions,
+    pub unsure: bool,
 }
 
 impl Rule {
@@ -44,6 +45,7 @@ impl Rule {
             matching: self.matching,
             priority: self.priority,
             actions,
+            unsure: self.unsure,
         })
     }
 

@@ -5,8 +5,8 @@ ghost use Rattle.std.specs.List.{position};
 ghost use Rattle.mon_header.specs.Matching.{IsNormal};
 ghost use Rattle.mon_table.specs.Rules.{identity, identity_of, same_identity};
 ghost use Rattle.mon_table.specs.Tables.{IsTable, AllActionsFit, InOrder, rule_of, without, with_rule, places, is_named, slice, tied};
-ghost use Rattle.mon_table.specs.Winners.{wins};
-ghost use Rattle.mon_table.specs.Places.{place_of, stands_at, top_rank, is_at_rank};
+ghost use Rattle.mon_table.specs.Winners.{wins, may_miss};
+ghost use Rattle.mon_table.specs.Places.{place_of, stands_at, hides, least_rank, is_from_rank};
 
 use crate::rule::Rule;
 use mon_header::{Header, Match, OutOfMemory, covers, effective, matches, overlaps};
@@ -146,15 +146,22 @@ impl Table {
         Ok(named)
     }
 
-    /// The places of the rules that win for a header, rising: those that match it and whose effective priority no rule
-    /// that matches exceeds.
+    /// The places of the rules that win for a header, rising: those that match it and whose effective priority no sure
+    /// rule that matches exceeds. Unsure ones hide nothing, since they may be gone.
     pub fn winners(&self, alloc: Global, h: &Header) -> Result<Vec<u32>, OutOfMemory>
         ensures { IfOk result (λ found. found.items ≡ places (wins self.now h.now) self.now) }
     {
-        match top_rank(&self.rules, h) {
-            Some(top) => places_at_rank(alloc, &self.rules, h, top),
-            None => Ok(Vec::new(alloc)),
-        }
+        let least = least_rank(&self.rules, h);
+        places_from_rank(alloc, &self.rules, h, least)
+    }
+
+    /// Whether a packet with this header may miss, so that no rule takes it: no sure rule matches it.
+    pub fn may_miss(&self, h: &Header) -> bool
+        ensures { result ≡ may_miss self.now h.now }
+    {
+        self.rules
+            .iter()
+            .all(|rule| !matches(&rule.matching, h) || rule.unsure)
     }
 
     /// The rules that overlap a match.
@@ -197,36 +204,43 @@ fn search(rules: &[Rule], m: &Match, rank: u32) -> usize
     rules.partition_point(|rule| rule.comes_before(m, rank))
 }
 
-/// The effective priority of the first rule that matches the header.
-fn top_rank(rules: &[Rule], h: &Header) -> Option<u32>
-    ensures { result ≡ top_rank h.now rules.now }
+/// Whether the rule is sure, and matches the header.
+fn hides(h: &Header, rule: &Rule) -> bool
+    ensures { result ≡ hides h.now rule.now }
 {
-    for rule in rules {
-        if matches(&rule.matching, h) {
-            return Some(rule.rank());
-        }
-    }
-    None
+    !rule.unsure && matches(&rule.matching, h)
 }
 
-/// The places of the rules of one effective priority that match the header. Lower ones are not looked at.
-fn places_at_rank(
+/// The effective priority of the first sure rule that matches the header, and 0 where none does.
+fn least_rank(rules: &[Rule], h: &Header) -> u32
+    ensures { result ≡ least_rank h.now rules.now }
+{
+    for rule in rules {
+        if hides(h, rule) {
+            return rule.rank();
+        }
+    }
+    0
+}
+
+/// The places of the rules from one effective priority up that match the header. Lower ones are not looked at.
+fn places_from_rank(
     alloc: Global,
     rules: &[Rule],
     h: &Header,
-    top: u32,
+    least: u32,
 ) -> Result<Vec<u32>, OutOfMemory>
     requires order { InOrder rules.now }
     requires few { length rules.now < 2 ^ 32 }
-    ensures { IfOk result (λ found. found.items ≡ places (is_at_rank h.now top) rules.now) }
+    ensures { IfOk result (λ found. found.items ≡ places (is_from_rank h.now least) rules.now) }
 {
     let mut found = Vec::new(alloc);
     for (place, rule) in rules.iter().enumerate() {
         let rank = rule.rank();
-        if rank < top {
+        if rank < least {
             return Ok(found);
         }
-        if rank == top && matches(&rule.matching, h) {
+        if least <= rank && matches(&rule.matching, h) {
             found.push(place as u32)?;
         }
     }

@@ -72,6 +72,7 @@ fn rule(alloc: Global, matching: Match, priority: u16, port: u16) -> Result<Rule
         matching,
         priority,
         actions,
+        unsure: false,
     })
 }
 
@@ -178,5 +179,41 @@ fn edits_give_what_stood_there(rt: HostRuntime) -> Result<(), Fail> {
     assert_eq!(rt; output(Edit::Cut { rule: old }.rule()), 1);
     assert!(rt; table.cut(&to_24(), 100)?.is_none());
     assert_eq!(rt; table.len(), 1);
+    Ok(())
+}
+
+/// A rule that a timeout may take.
+fn unsure(alloc: Global, matching: Match, priority: u16) -> Result<Rule, OutOfMemory> {
+    let mut rule = rule(alloc, matching, priority, 2)?;
+    rule.unsure = true;
+    Ok(rule)
+}
+
+#[test]
+fn unsure_rules_hide_nothing(rt: HostRuntime) -> Result<(), Fail> {
+    let alloc = rt.alloc();
+    let mut table = Table::new(alloc);
+    assert!(rt; table.may_miss(&PACKET));
+    let _ = table.put(unsure(alloc, port_1(), 200)?)?;
+    let _ = table.put(unsure(alloc, to_24(), 100)?)?;
+    let _ = table.put(rule(alloc, to_8(), 100, 2)?)?;
+    let _ = table.put(rule(alloc, any_ipv4(), 50, 2)?)?;
+    // Both unsure rules may be gone, and the sure one of priority 100 hides the last.
+    assert_eq!(rt;
+        table.winners(alloc, &PACKET)?.as_slice(),
+        [0, 1, 2].as_slice()
+    );
+    assert!(rt; table.cut(&to_8(), 100)?.is_some());
+    assert_eq!(rt;
+        table.winners(alloc, &PACKET)?.as_slice(),
+        [0, 1, 2].as_slice()
+    );
+    assert!(rt; !table.may_miss(&PACKET));
+    assert!(rt; table.cut(&any_ipv4(), 50)?.is_some());
+    assert_eq!(rt;
+        table.winners(alloc, &PACKET)?.as_slice(),
+        [0, 1].as_slice()
+    );
+    assert!(rt; table.may_miss(&PACKET));
     Ok(())
 }

@@ -87,7 +87,7 @@ priority_of k = 1000 * (k % 4 + 1) + k / 16 % 4
 
 -- the rule that is made from a number
 unfoldable pub rule_from : ℕ → Rule
-rule_from k = record { matching = normal (wild_of k) (fields_of k); priority = priority_of k; actions = actions_for k }
+rule_from k = record { matching = normal (wild_of k) (fields_of k); priority = priority_of k; actions = actions_for k; unsure = false }
 
 -- the table after an ADD of a rule, which replaces one of its identity (OpenFlow 1.0.0, modify flow entry message)
 abbrev pub added : List Rule → Rule → List Rule

@@ -1,5 +1,5 @@
 -- The lines of a table file. Words are parted by one space, and a line feed ends each line.
-use Rattle.std.specs.Prelude.{◌≡◌, ℕ, ◌<◌, ◌≤◌, ◌^◌, Bool, nat_le, ◌&&◌, is_ok, true, List, [], ◌++◌, length, codes, decimal, Result, Ok, Err}
+use Rattle.std.specs.Prelude.{◌≡◌, ℕ, ◌<◌, ◌≤◌, ◌^◌, Bool, nat_le, ◌&&◌, is_ok, true, false, List, [], ◌++◌, length, codes, decimal, Result, Ok, Err}
 use Rattle.std.specs.List.{flat_map}
 use Rattle.std.specs.Int.{w64, to_be_bytes}
 use Rattle.mon_text.specs.Hex.{hex, AllBytes, AreBytes}
@@ -61,7 +61,7 @@ pub record Row : Type 0 where
 
 -- the line of a rule
 abbrev pub rule_line : Row → List ℕ
-rule_line r = codes "rule " ++ rule_words r.priority r.matching r.actions
+rule_line r = codes "rule " ++ rule_words r.priority r.matching r.actions false
 
 -- whole actions (OpenFlow 1.0.0, flow action structures), at most 512 bytes of them
 abbrev pub are_actions : List ℕ → Bool
@@ -82,4 +82,4 @@ actions_given (Err place) = []
 
 -- the rule that a row says; its match is in the normalised form
 abbrev pub rule_given : Row → Rule
-rule_given r = record { matching = match_of r.matching; priority = r.priority; actions = actions_given (actions_of r.actions) }
+rule_given r = record { matching = match_of r.matching; priority = r.priority; actions = actions_given (actions_of r.actions); unsure = false }

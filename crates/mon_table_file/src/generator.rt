@@ -154,6 +154,7 @@ fn rule_from(alloc: Global, k: u32) -> Result<Rule, OutOfMemory>
         matching,
         priority,
         actions,
+        unsure: false,
     })
 }
 

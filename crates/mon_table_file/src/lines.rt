@@ -186,6 +186,7 @@ pub fn rule_at(alloc: Global, text: &[u8]) -> Result<Option<(Rule, &[u8])>, OutO
                 matching,
                 priority,
                 actions,
+                unsure: false,
             },
             rest,
         ))),

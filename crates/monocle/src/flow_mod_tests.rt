@@ -226,8 +226,29 @@ const OF_LOW: FlowMod = (
     "ffffffff ffff 0000 0000000800030000",
 );
 
-/// A modification that names nothing adds its rule; one goes to each entry that it covers.
-const MODIFIED: [Row; 2] = [
+/// An ADD with an idle timeout, and the same with SEND_FLOW_REM.
+const TIMED: FlowMod = (
+    "010e005000000011",
+    TO_24,
+    "0000000000000000 0000 000a 0000 0064",
+    "ffffffff ffff 0000 0000000800020000",
+);
+
+const ASKED: FlowMod = (
+    "010e005000000011",
+    TO_24,
+    "0000000000000000 0000 000a 0000 0064",
+    "ffffffff ffff 0001 0000000800020000",
+);
+
+/// A modification that names nothing adds its rule; one goes to each entry that it covers. An entry with a timeout is
+/// asked for, and marked.
+const MODIFIED: [Row; 3] = [
+    (
+        &[TIMED],
+        &[("2 put 0 switch ", ASKED)],
+        &[("100", TO_24, "0000000800020000 unsure")],
+    ),
     (
         &[MODIFY],
         &[("2 put 0 switch ", ADDED)],
@@ -257,8 +278,8 @@ fn modifications_add_or_change(rt: HostRuntime) -> Result<(), Fail> {
 }
 
 /// Causes, and FLOW_MODs for `TO_24` that are answered by an ERROR: one of 71 bytes, a command that is none, an action of
-/// four bytes, a timeout, and one whose actions are of 520 bytes.
-const REFUSED: [(&str, &str, &str, &str, u32); 5] = [
+/// four bytes, and one whose actions are of 520 bytes.
+const REFUSED: [(&str, &str, &str, &str, u32); 4] = [
     (
         "00010006",
         "010e004700000011",
@@ -279,13 +300,6 @@ const REFUSED: [(&str, &str, &str, &str, u32); 5] = [
         "0000000000000000 0000 0000 0000 0064",
         "ffffffff ffff 0000 0000000400020000",
         0,
-    ),
-    (
-        "00030002",
-        "010e005000000011",
-        "0000000000000000 0000 000a 0000 0064",
-        "ffffffff ffff 0000",
-        1,
     ),
     (
         "00030002",

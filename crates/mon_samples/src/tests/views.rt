@@ -244,3 +244,80 @@ fn tied_rules_are_never_sure(rt: HostRuntime) -> Result<(), Fail> {
     assert!(rt; !is_shown(alloc, &table, &h)?);
     Ok(())
 }
+
+/// The catching rules, and two for all IPv4 packets, of the priorities 50 and 10: each with its port, and whether it is
+/// unsure.
+fn over(alloc: Global, high: (u16, bool), low: (u16, bool)) -> Result<Table, OutOfMemory> {
+    let mut table = catching(alloc)?;
+    for (priority, port, unsure) in [(50, high.0, high.1), (10, low.0, low.1)] {
+        let mut rule = sending(alloc, Match::normal(0x003820ef, IPV4), priority, &[port])?;
+        rule.unsure = unsure;
+        let _ = table.put(rule)?;
+    }
+    Ok(table)
+}
+
+/// Whether a put of the rule for 10.0.0.0/24, which may be unsure, is shown over these two.
+fn shows_put(
+    alloc: Global,
+    unsure: bool,
+    high: (u16, bool),
+    low: (u16, bool),
+) -> Result<bool, OutOfMemory> {
+    let mut rule = to_24(alloc, &[2])?;
+    rule.unsure = unsure;
+    let mut table = over(alloc, high, low)?;
+    let _ = table.put(rule.copied(alloc)?)?;
+    let x = Target::Put { rule, old: None };
+    let v = view(alloc, 128)?;
+    Ok(separates(&v, &table, &x, &PACKET, &Emission::Port(2, PACKET)))
+}
+
+#[test]
+fn what_may_be_gone_hides_nothing(rt: HostRuntime) -> Result<(), Fail> {
+    let alloc = rt.alloc();
+    for (unsure, high, low, wanted) in [
+        (false, (1, false), (2, false), true),
+        (true, (1, false), (2, false), true),
+        // The lower one shows where the higher one is gone.
+        (false, (1, true), (2, false), false),
+        (false, (1, true), (1, true), true),
+        (false, (2, true), (1, false), false),
+    ] {
+        assert!(rt;
+            shows_put(alloc, unsure, high, low)? == wanted,
+            "{unsure} {high:?} {low:?}"
+        );
+    }
+    Ok(())
+}
+
+/// Whether the cut of the rule for 10.0.0.0/24 is shown by a miss, or a put of it over one with the same actions by its
+/// own emission.
+fn shows_change(alloc: Global, cut: bool, unsure: bool) -> Result<bool, OutOfMemory> {
+    let mut old = to_24(alloc, &[2])?;
+    old.unsure = unsure;
+    let mut table = catching(alloc)?;
+    let v = view(alloc, 128)?;
+    if cut {
+        let x = Target::Cut { rule: old };
+        return Ok(separates(&v, &table, &x, &PACKET, &Emission::Miss(PACKET)));
+    }
+    let rule = to_24(alloc, &[2])?;
+    let _ = table.put(rule.copied(alloc)?)?;
+    let x = Target::Put {
+        rule,
+        old: Some(old),
+    };
+    Ok(separates(&v, &table, &x, &PACKET, &Emission::Port(2, PACKET)))
+}
+
+#[test]
+fn what_looks_like_vanishing_is_not_shown(rt: HostRuntime) -> Result<(), Fail> {
+    let alloc = rt.alloc();
+    assert!(rt; shows_change(alloc, true, false)?);
+    assert!(rt; !shows_change(alloc, true, true)?);
+    assert!(rt; !shows_change(alloc, false, false)?);
+    assert!(rt; !shows_change(alloc, false, true)?);
+    Ok(())
+}

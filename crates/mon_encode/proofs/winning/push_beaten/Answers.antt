@@ -6,4 +6,4 @@ use Rattle.mon_encode.proofs.winning.push_beaten.Goals as goal
 pub push-requires : goal.push-requires
 push-requires c =
     subst (Within c.loop-place.f.vars) (sym c.in_ok-unmatched.ensures)
-    (unmatched-fits c.loop-place.f.vars c.rule-rule.result.now (let v = c.loop-place.invariant.vars in omega arith))
+    (unmatched-fits c.loop-place.f.vars c.rule-rule.result (let v = c.loop-place.invariant.vars in omega arith))

@@ -7,4 +7,4 @@ use Rattle.mon_encode.proofs.winning.push_none.Goals as goal
 pub push-requires : goal.push-requires
 push-requires c =
     subst (Within c.loop-place.f.vars) (sym c.in_ok-unmatched.ensures)
-    (unmatched-fits c.loop-place.f.vars c.rule.result.now (let v = ap (λ (f : Cnf). f.vars) c.loop-place.invariant in omega arith))
+    (unmatched-fits c.loop-place.f.vars c.rule.result (let v = ap (λ (f : Cnf). f.vars) c.loop-place.invariant in omega arith))

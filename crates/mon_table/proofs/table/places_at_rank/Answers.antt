@@ -1,7 +1,0 @@
-use Rattle.std.proofs.Common.{arith}
-use Rattle.mon_table.proofs.Listing.{places-stop}
-use Rattle.mon_table.proofs.table.places_at_rank.Goals as goal
-
-pub returns-then-rank-top : goal.returns-then-rank-top
-returns-then-rank-top c =
-    places-stop c.args.h.now c.args.top c.args.rules.now _ _ c.loop-place.place c.index-rules-place.result (omega arith) c.index-rules-place.is c.requires.order (omega arith) c.loop-place.invariant
