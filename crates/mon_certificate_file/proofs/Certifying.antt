@@ -1,14 +1,14 @@
 -- The lines of a rule, and the whole file, are read just as they are spelled.
 use Rattle.std.proofs.Common.{◌≡◌, ℕ, suc, ◌^◌, ◌<◌, true, refl, sym, ap, subst, ◌∙◌, List, [], ◌∷◌, ◌++◌, length, Option, Some, None, Err, arith, decimal, codes, append_assoc}
-use Rattle.std.specs.Prelude.{◌==◌}
+use Rattle.std.specs.Prelude.{◌==◌, option_and_then}
 use Rattle.std.specs.List.{flat_map}
 use Rattle.std.proofs.lemmas.List.{append-nil}
 use Rattle.std.proofs.lemmas.Bool.{eqb-true}
 use Rattle.std.proofs.lemmas.Option.{none-some, some_pair_parts}
 use Rattle.mon_text.specs.Parts.{behind, feed}
-use Rattle.mon_text.specs.declared.fault.TextFault.{TextFault}
-use Rattle.mon_text.specs.Reads.{ReadsPart}
-use Rattle.mon_text.proofs.Joining.{behind-found, behind-again}
+use Rattle.mon_text.specs.declared.fault.LineFault.{LineFault}
+use Rattle.mon_text.specs.Faults.{LinesReadPart}
+use Rattle.mon_text.proofs.Joining.{bound, behind-found, behind-again}
 use Rattle.mon_header.specs.declared.header.Header.{Header}
 use Rattle.mon_outcome.specs.declared.emission.Emission.{Emission}
 use Rattle.mon_refute.specs.declared.lines.LogLine.{LogLine}
@@ -17,7 +17,7 @@ use Rattle.mon_refute.specs.Reading.{LogAt}
 use Rattle.mon_certificate.specs.declared.certificate.Certificate.{Certificate}
 use Rattle.mon_certificate.specs.declared.certificate.Certificate.TheVariants.{Probe, Nothing, Overlap}
 use Rattle.mon_certificate_file.specs.CertificateFile.{logs_text, probe_text, nothing_text, certificate_text, row, certificates_text, FitsLogs, FitsCertificate, Spells}
-use Rattle.mon_certificate_file.specs.Reading.{behind_rule, probe_in, overlap_in, count_in, head_in, PartAt, RowAt}
+use Rattle.mon_certificate_file.specs.Reading.{behind_rule, probe_in, overlap_in, count_in, nothing_in, head_in, PartAt, RowAt, FileAt}
 use Rattle.mon_certificate_file.proofs.LineReaders.{rule-found, rule-again, overlap-found, overlap-again, reader_probe, reader_count, head_words, reader_head}
 use Rattle.mon_certificate_file.proofs.Rows.{flat_is_row}
 
@@ -71,14 +71,45 @@ nothing_found rule bytes after logs rest e p = record {
 pub nothing_rule : (rule : ℕ) (bytes : List ℕ) (logs : List (List LogLine)) (rest : List ℕ) → PartAt (nothing_text rule) FitsLogs bytes logs rest → behind_rule rule bytes ≡ Some (logs_text logs ++ rest)
 nothing_rule rule bytes logs rest p = ap (behind_rule rule) (p.is ∙ sym (nothing_is rule logs rest)) ∙ rule-again rule (logs_text logs ++ rest)
 
-some_is : (x y : List ℕ) → ◌≡◌ {A = Option (List ℕ)} (Some x) (Some y) → x ≡ y
+pub some_is : (x y : List ℕ) → ◌≡◌ {A = Option (List ℕ)} (Some x) (Some y) → x ≡ y
 some_is x y e = cc
 
 pub nothing_part : (rule : ℕ) (bytes after : List ℕ) (logs : List (List LogLine)) (rest : List ℕ) → behind_rule rule bytes ≡ Some after → PartAt (nothing_text rule) FitsLogs bytes logs rest → PartAt logs_text FitsLogs after logs rest
 nothing_part rule bytes after logs rest e p = record { is = some_is after (logs_text logs ++ rest) (sym e ∙ nothing_rule rule bytes logs rest p); fits = p.fits }
 
-pub nothing_none : (rule : ℕ) (bytes : List ℕ) (logs : List (List LogLine)) (rest : List ℕ) → behind_rule rule bytes ≡ None → PartAt (nothing_text rule) FitsLogs bytes logs rest → ⊥
-nothing_none rule bytes logs rest e p = none-some (logs_text logs ++ rest) (sym e ∙ nothing_rule rule bytes logs rest p)
+-- the same with the count behind the rule's number
+pub rows_found : (rule : ℕ) (bytes after : List ℕ) (count : ℕ) (logs : List (List LogLine)) (rest : List ℕ) → nothing_in rule bytes ≡ Some (count, after) → LogsAt count after logs rest → PartAt (nothing_text rule) FitsLogs bytes logs rest
+unfolding nothing_in
+rows_found rule bytes after count logs rest e a =
+    let b = bound count_in (behind_rule rule bytes) (count, after) e in
+    nothing_found rule bytes b.0 logs rest b.1 (logs_found b.0 after count logs rest b.2 a)
+
+pub rows_part : (rule : ℕ) (bytes after : List ℕ) (count : ℕ) (logs : List (List LogLine)) (rest : List ℕ) → nothing_in rule bytes ≡ Some (count, after) → PartAt (nothing_text rule) FitsLogs bytes logs rest → LogsAt count after logs rest
+unfolding nothing_in
+rows_part rule bytes after count logs rest e p =
+    let b = bound count_in (behind_rule rule bytes) (count, after) e in
+    logs_row b.0 after count logs rest b.2 (nothing_part rule bytes b.0 logs rest b.1 p)
+
+pub rows_none : (rule : ℕ) (bytes : List ℕ) (logs : List (List LogLine)) (rest : List ℕ) → nothing_in rule bytes ≡ None → PartAt (nothing_text rule) FitsLogs bytes logs rest → ⊥
+unfolding nothing_in
+rows_none rule bytes logs rest e p =
+    none-some (length logs, row (λ _. log_text) 0 logs ++ rest)
+    (sym e ∙ ap (option_and_then count_in) (nothing_rule rule bytes logs rest p) ∙ logs_count (logs_text logs ++ rest) logs rest (record { is = refl; fits = p.fits }))
+
+pub nothing_again : (rule count : ℕ) (rest : List ℕ) → count < 2 ^ 64 → nothing_in rule (decimal rule ++ (codes " " ++ ((decimal count ++ feed) ++ rest))) ≡ Some (count, rest)
+unfolding nothing_in
+nothing_again rule count rest w = ap (option_and_then count_in) (rule-again rule ((decimal count ++ feed) ++ rest)) ∙ reader_count.again count rest w
+
+pub record IsNothingLine (rule : ℕ) (bytes : List ℕ) (count : ℕ) (after : List ℕ) : Type 0 where
+  pub is : bytes ≡ decimal rule ++ (codes " " ++ ((decimal count ++ feed) ++ after))
+  pub fits : count < 2 ^ 64
+
+pub nothing_line : (rule : ℕ) (bytes : List ℕ) (count : ℕ) (after : List ℕ) → nothing_in rule bytes ≡ Some (count, after) → IsNothingLine rule bytes count after
+unfolding nothing_in
+nothing_line rule bytes count after e =
+    let b = bound count_in (behind_rule rule bytes) (count, after) e in
+    let f = reader_count.found b.0 count after b.2 in
+    record { is = rule-found rule bytes b.0 b.1 ∙ ap (λ t. decimal rule ++ (codes " " ++ t)) f.1; fits = f.0 }
 
 abbrev pub CertificateAt : ℕ → List ℕ → Certificate → List ℕ → Type 0
 CertificateAt rule bytes c rest = PartAt (certificate_text rule) FitsCertificate bytes c rest
@@ -147,8 +178,8 @@ refuted_same rule bytes after logs read c rest b once a =
     let s = once p.logs rest p.part in
     (ap Nothing s.0 ∙ p.is, s.1)
 
-pub refuted_bad : (f : TextFault) (rule : ℕ) (bytes after : List ℕ) (c : Certificate) (rest : List ℕ) → behind (codes "none ") bytes ≡ Some after
-    → ((ls : List (List LogLine)) (r : List ℕ) → PartAt (nothing_text rule) FitsLogs after ls r → ReadsPart {X = List (List LogLine)} (Err f) ls r) → CertificateAt rule bytes c rest → ReadsPart {X = Certificate} (Err f) c rest
+pub refuted_bad : (f : LineFault) (rule : ℕ) (bytes after : List ℕ) (c : Certificate) (rest : List ℕ) → behind (codes "none ") bytes ≡ Some after
+    → ((ls : List (List LogLine)) (r : List ℕ) → PartAt (nothing_text rule) FitsLogs after ls r → LinesReadPart {X = List (List LogLine)} (Err f) ls r) → CertificateAt rule bytes c rest → LinesReadPart {X = Certificate} (Err f) c rest
 refuted_bad f rule bytes after c rest b none a = let p = refuted_only rule bytes after c rest b a in none p.logs rest p.part
 
 -- the line of a tied rule
@@ -183,21 +214,41 @@ no_kind rule bytes (Nothing logs) rest a b d p = no_word (codes "none ") (nothin
 no_kind rule bytes Overlap rest a b d p = no_word (codes "overlap ") (decimal rule ++ feed) rest bytes p.is d
 
 -- the whole file
-file_is : (cs : List Certificate) → (head_words ++ (decimal (length cs) ++ feed)) ++ row certificate_text 0 cs ≡ certificates_text cs
+pub file_is : (cs : List Certificate) → (head_words ++ (decimal (length cs) ++ feed)) ++ row certificate_text 0 cs ≡ certificates_text cs
 file_is cs = append_assoc head_words (decimal (length cs) ++ feed) (row certificate_text 0 cs) ∙ ap (λ t. head_words ++ t) (append_assoc (decimal (length cs)) feed (row certificate_text 0 cs))
 
 abbrev pub CertificatesAt : ℕ → List ℕ → List Certificate → List ℕ → Type 0
 CertificatesAt count bytes cs rest = RowAt certificate_text FitsCertificate 0 count bytes cs rest
 
-pub file_found : (text after : List ℕ) (count : ℕ) (cs : List Certificate) (rest : List ℕ) → head_in text ≡ Some (count, after) → CertificatesAt count after cs rest → rest ≡ [] → Spells text cs
-file_found text after count cs rest e a none =
+pub file_part : (text after : List ℕ) (count : ℕ) (cs : List Certificate) (rest : List ℕ) → head_in text ≡ Some (count, after) → CertificatesAt count after cs rest → FileAt text cs rest
+file_part text after count cs rest e a =
     let f = reader_head.found text count after e in
+    let head = head_words ++ (decimal (length cs) ++ feed) in
     record {
       is = f.1 ∙ ap (λ n. (head_words ++ (decimal n ++ feed)) ++ after) (sym a.count_is)
-          ∙ ap (λ t. (head_words ++ (decimal (length cs) ++ feed)) ++ t) (a.is ∙ ap (λ r. row certificate_text 0 cs ++ r) none ∙ append-nil (row certificate_text 0 cs))
-          ∙ file_is cs;
-      fit = (subst (λ n. n < 2 ^ 64) (sym a.count_is) f.0, a.fit);
+          ∙ ap (λ t. head ++ t) a.is ∙ sym (append_assoc head (row certificate_text 0 cs) rest)
+          ∙ ap (λ t. t ++ rest) (file_is cs);
+      fits = (subst (λ n. n < 2 ^ 64) (sym a.count_is) f.0, a.fit);
     }
+
+pub front_head : (text : List ℕ) (cs : List Certificate) (rest : List ℕ) → FileAt text cs rest → head_in text ≡ Some (length cs, row certificate_text 0 cs ++ rest)
+front_head text cs rest a =
+    ap head_in (a.is ∙ ap (λ t. t ++ rest) (sym (file_is cs)) ∙ append_assoc (head_words ++ (decimal (length cs) ++ feed)) (row certificate_text 0 cs) rest)
+    ∙ reader_head.again (length cs) (row certificate_text 0 cs ++ rest) a.fits.0
+
+pub front_rows : (text after : List ℕ) (count : ℕ) (cs : List Certificate) (rest : List ℕ) → head_in text ≡ Some (count, after) → FileAt text cs rest → CertificatesAt count after cs rest
+front_rows text after count cs rest e a =
+    let p = some_pair_parts count (length cs) after (row certificate_text 0 cs ++ rest) (sym e ∙ front_head text cs rest a) in
+    record { is = p.1; count_is = sym p.0; fit = a.fits.1 }
+
+pub front_none : (text : List ℕ) (cs : List Certificate) (rest : List ℕ) → head_in text ≡ None → FileAt text cs rest → ⊥
+front_none text cs rest e a = none-some (length cs, row certificate_text 0 cs ++ rest) (sym e ∙ front_head text cs rest a)
+
+pub file_alone : (text : List ℕ) (cs : List Certificate) → Spells text cs → FileAt text cs []
+file_alone text cs s = record { is = s.is ∙ sym (append-nil (certificates_text cs)); fits = s.fit }
+
+pub file_spelled : (text rest : List ℕ) (cs : List Certificate) → FileAt text cs rest → rest ≡ [] → Spells text cs
+file_spelled text rest cs a e = record { is = a.is ∙ ap (λ r. certificates_text cs ++ r) e ∙ append-nil (certificates_text cs); fit = a.fits }
 
 pub file_head : (text : List ℕ) (cs : List Certificate) → Spells text cs → head_in text ≡ Some (length cs, row certificate_text 0 cs)
 file_head text cs s = ap head_in (s.is ∙ sym (file_is cs)) ∙ reader_head.again (length cs) (row certificate_text 0 cs) s.fit.0
@@ -206,9 +257,6 @@ pub file_row : (text after : List ℕ) (count : ℕ) (cs : List Certificate) →
 file_row text after count cs e s =
     let p = some_pair_parts count (length cs) after (row certificate_text 0 cs) (sym e ∙ file_head text cs s) in
     record { is = p.1 ∙ sym (append-nil (row certificate_text 0 cs)); count_is = sym p.0; fit = s.fit.1 }
-
-pub file_none : (text : List ℕ) (cs : List Certificate) → head_in text ≡ None → Spells text cs → ⊥
-file_none text cs e s = none-some (length cs, row certificate_text 0 cs) (sym e ∙ file_head text cs s)
 
 pub none_left : (rest : List ℕ) → (length rest == 0) ≡ true → rest ≡ []
 none_left [] e = refl

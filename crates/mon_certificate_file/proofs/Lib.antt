@@ -1,5 +1,6 @@
 pub mod FieldBits
 pub mod Fields
+pub mod Leaving
 pub mod LineReaders
 pub mod Rows
 pub mod Certifying

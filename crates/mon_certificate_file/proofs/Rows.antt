@@ -2,8 +2,8 @@
 use Rattle.std.proofs.Common.{◌≡◌, ℕ, suc, ◌+◌, ◌-◌, ◌<◌, ◌≤◌, refl, sym, ap, subst, ◌∙◌, List, [], ◌∷◌, ◌++◌, length, Result, Ok, Err, IfOk, arith, append_assoc, length-append}
 use Rattle.std.specs.List.{flat_map}
 use Rattle.std.proofs.lemmas.List.{append-nil}
-use Rattle.mon_text.specs.declared.fault.TextFault.{TextFault}
-use Rattle.mon_text.specs.Reads.{ReadsPart}
+use Rattle.mon_text.specs.declared.fault.LineFault.{LineFault}
+use Rattle.mon_text.specs.Faults.{LinesReadPart}
 use Rattle.mon_certificate_file.specs.CertificateFile.{row}
 use Rattle.mon_certificate_file.specs.Reading.{PartAt, RowAt}
 use Rattle.mon_text.proofs.Growing.{all_push}
@@ -77,13 +77,13 @@ module _ {X : Type 0} (text : ℕ → X → List ℕ) (Fits : X → Type 0) wher
     only = λ xs r a. let m = s.only xs r a in more_only count i rest after front x lt once xs r m.0 m.1 m.2;
   })
 
-  none_more : (count i : ℕ) (f : TextFault) (rest : List ℕ) → i < count → ((y : X) (r : List ℕ) → PartAt (text i) Fits rest y r → ReadsPart {X = X} (Err f) y r)
-      → (xs : List X) (r : List ℕ) (more : List X) → RowAt text Fits i (count - i) rest more r → ReadsPart {X = List X} (Err f) xs r
+  none_more : (count i : ℕ) (f : LineFault) (rest : List ℕ) → i < count → ((y : X) (r : List ℕ) → PartAt (text i) Fits rest y r → LinesReadPart {X = X} (Err f) y r)
+      → (xs : List X) (r : List ℕ) (more : List X) → RowAt text Fits i (count - i) rest more r → LinesReadPart {X = List X} (Err f) xs r
   none_more count i f rest lt none xs r [] a = absurd (let k : 0 ≡ count - i = a.count_is in omega arith)
   none_more count i f rest lt none xs r (y ∷ ys) a = none y (row text (suc i) ys ++ r) (next_item i (count - i) rest y ys r a)
 
-  pub no_more : (count i : ℕ) (f : TextFault) (bytes rest : List ℕ) (front : List X) → i < count → SoFar count i bytes front rest
-      → ((y : X) (r : List ℕ) → PartAt (text i) Fits rest y r → ReadsPart {X = X} (Err f) y r) → (xs : List X) (r : List ℕ) → RowAt text Fits 0 count bytes xs r → ReadsPart {X = List X} (Err f) xs r
+  pub no_more : (count i : ℕ) (f : LineFault) (bytes rest : List ℕ) (front : List X) → i < count → SoFar count i bytes front rest
+      → ((y : X) (r : List ℕ) → PartAt (text i) Fits rest y r → LinesReadPart {X = X} (Err f) y r) → (xs : List X) (r : List ℕ) → RowAt text Fits 0 count bytes xs r → LinesReadPart {X = List X} (Err f) xs r
   no_more count i f bytes rest front lt s none xs r a = let m = s.only xs r a in none_more count i f rest lt none xs r m.0 m.2
 
   ended_only : (count i : ℕ) (front : List X) (rest : List ℕ) (xs : List X) (r : List ℕ) (more : List X) → count ≤ i → xs ≡ front ++ more → RowAt text Fits i (count - i) rest more r → (front ≡ xs) × (rest ≡ r)

@@ -16,14 +16,14 @@ use Rattle.mon_certificate_file.proofs.LineReaders.{overlap-again, reader_probe}
 use Rattle.mon_certificate_file.proofs.Certifying.{logs_count, logs_row, nothing_rule, nothing_part, probe_same, refuted_same, overlap_same, file_head, file_row}
 use Rattle.mon_refute.proofs.Items.{cons_parts}
 
-log-once : (l m : List LogLine) (r s : List ℕ) → FitsLog l → FitsLog m → log_text l ++ r ≡ log_text m ++ s → (l ≡ m) × (r ≡ s)
+pub log-once : (l m : List LogLine) (r s : List ℕ) → FitsLog l → FitsLog m → log_text l ++ r ≡ log_text m ++ s → (l ≡ m) × (r ≡ s)
 log-once l m r s f g e =
     let count : CountAt (log_text l ++ r) (length l) (flat_map line_text l ++ r) = record { is = ap (λ t. codes "log " ++ t) (append_assoc (decimal (length l)) (10 ∷ flat_map line_text l) r); fits = f.0 } in
     let lines : LinesAt (flat_map line_text l ++ r) (length l) l r = record { is = refl; count_is = refl; fit = f.1 } in
     log_once (log_text l ++ r) (flat_map line_text l ++ r) r (length l) l m s count lines (record { is = e; fits = g })
 
 module _ {X : Type 0} (text : ℕ → X → List ℕ) (Fits : X → Type 0) (once : (n : ℕ) (x y : X) (r s : List ℕ) → Fits x → Fits y → text n x ++ r ≡ text n y ++ s → (x ≡ y) × (r ≡ s)) where
-  row-once : (place : ℕ) (xs ys : List X) (r s : List ℕ) → length xs ≡ length ys → AllByRecursion Fits xs → AllByRecursion Fits ys → row text place xs ++ r ≡ row text place ys ++ s → (xs ≡ ys) × (r ≡ s)
+  pub row-once : (place : ℕ) (xs ys : List X) (r s : List ℕ) → length xs ≡ length ys → AllByRecursion Fits xs → AllByRecursion Fits ys → row text place xs ++ r ≡ row text place ys ++ s → (xs ≡ ys) × (r ≡ s)
   row-once place [] [] r s n f g e = (refl, e)
   row-once place [] (y ∷ ys) r s n f g e = absurd (omega arith)
   row-once place (x ∷ xs) [] r s n f g e = absurd (omega arith)
@@ -42,7 +42,7 @@ logs-once rule logs others r s f p =
 front : (word text r : List ℕ) → behind word ((word ++ text) ++ r) ≡ Some (text ++ r)
 front word text r = ap (behind word) (append_assoc word text r) ∙ behind-again word (text ++ r)
 
-certificate-once : (rule : ℕ) (c d : Certificate) (r s : List ℕ) → FitsCertificate c → FitsCertificate d → certificate_text rule c ++ r ≡ certificate_text rule d ++ s → (c ≡ d) × (r ≡ s)
+pub certificate-once : (rule : ℕ) (c d : Certificate) (r s : List ℕ) → FitsCertificate c → FitsCertificate d → certificate_text rule c ++ r ≡ certificate_text rule d ++ s → (c ≡ d) × (r ≡ s)
 certificate-once rule (Probe h e) d r s f g is =
     probe_same rule (certificate_text rule (Probe h e) ++ r) (probe_text rule (h, e) ++ r) h e r d s (front (codes "probe ") (probe_text rule (h, e)) r) ((reader_probe rule).again (h, e) r f) (record { is = is; fits = g })
 certificate-once rule (Nothing logs) d r s f g is =

@@ -84,3 +84,7 @@ FitsCertificates cs = (length cs < 2 ^ 64) × AllByRecursion FitsCertificate cs
 pub record Spells (text : List ℕ) (cs : List Certificate) : Type 0 where
   pub is : text ≡ certificates_text cs
   pub fit : FitsCertificates cs
+
+-- the text is that of some certificates
+abbrev pub IsCertificateFile : List ℕ → Type 0
+IsCertificateFile text = (cs : List Certificate) × Spells text cs

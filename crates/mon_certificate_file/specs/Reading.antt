@@ -7,7 +7,8 @@ use Rattle.mon_header.specs.declared.header.Header.{Header}
 use Rattle.mon_outcome.specs.declared.emission.Emission.{Emission}
 use Rattle.mon_outcome.specs.declared.emission.Emission.TheVariants.{Port, Controller, Miss}
 use Rattle.mon_certificate_file.specs.Headers.{header_from}
-use Rattle.mon_certificate_file.specs.CertificateFile.{row}
+use Rattle.mon_certificate.specs.declared.certificate.Certificate.{Certificate}
+use Rattle.mon_certificate_file.specs.CertificateFile.{row, certificates_text, FitsCertificates}
 
 unfoldable pub header_in : List ℕ → Part Header
 header_in = seen header_from (bytes_in 33)
@@ -54,6 +55,10 @@ overlap_in rule text = option_and_then (behind feed) (behind (decimal rule) text
 unfoldable pub count_in : List ℕ → Part ℕ
 count_in = ended feed number_in
 
+-- how many refutations the first line of a rule says that no probe shows, behind its first word
+unfoldable pub nothing_in : ℕ → List ℕ → Part ℕ
+nothing_in rule text = option_and_then count_in (behind_rule rule text)
+
 -- the first two lines, of which the second says how many rules there are
 unfoldable pub head_in : List ℕ → Part ℕ
 head_in = led (codes "monocle-certificates 1" ++ (feed ++ codes "rules ")) count_in
@@ -68,3 +73,15 @@ pub record RowAt {X : Type 0} (text : ℕ → X → List ℕ) (Fits : X → Type
   pub is : bytes ≡ row text place xs ++ rest
   pub count_is : length xs ≡ count
   pub fit : AllByRecursion Fits xs
+
+-- the text of one of them, which fits
+abbrev pub IsOne : {X : Type 0} → (X → List ℕ) → (X → Type 0) → List ℕ → Type 0
+IsOne {X} text Fits s = (x : X) × Fits x × (s ≡ text x)
+
+-- the texts of so many of them, one behind the other, from the place 0 on
+abbrev pub IsRow : {X : Type 0} → (ℕ → X → List ℕ) → (X → Type 0) → ℕ → List ℕ → Type 0
+IsRow {X} text Fits count s = (xs : List X) × (length xs ≡ count) × AllByRecursion Fits xs × (s ≡ row text 0 xs)
+
+-- the text of these certificates stands at the front
+abbrev pub FileAt : List ℕ → List Certificate → List ℕ → Type 0
+FileAt bytes cs rest = PartAt certificates_text FitsCertificates bytes cs rest

@@ -5,7 +5,8 @@ ghost use Rattle.std.specs.List.{flat_map};
 ghost use Rattle.mon_header.specs.declared.header.Header.{Header};
 ghost use Rattle.mon_header.specs.Places.{bits_of, header_bits};
 ghost use Rattle.mon_certificate.specs.declared.certificate.Certificate.{Certificate};
-ghost use Rattle.mon_certificate_file.specs.CertificateFile.{Spells};
+ghost use Rattle.mon_certificate_file.specs.CertificateFile.{Spells, IsCertificateFile};
+ghost use Rattle.mon_text.specs.BadLines.{IsFirstBadLine};
 ghost use Rattle.mon_certificate_file.specs.Headers.{header_bytes};
 
 /// A text is of at most one list of certificates.
@@ -16,4 +17,9 @@ pub fn spelling_is_of_one()
 /// The bytes that stand for a header have its 264 bits, eight to a byte, the most significant one first.
 pub fn bytes_have_the_bits()
     ensures { (h : Header) → flat_map (bits_of 8) (header_bytes h) ≡ header_bits h }
+{}
+
+/// A text has at most one first bad line, so the offset that `read_certificates` gives is a function of the text.
+pub fn one_line_is_the_first_bad_one()
+    ensures { (text : List ℕ) (a b : ℕ) → IsFirstBadLine IsCertificateFile text a → IsFirstBadLine IsCertificateFile text b → a ≡ b }
 {}

@@ -14,10 +14,10 @@ mod lines;
 mod reading;
 mod writing;
 
-pub use laws::{bytes_have_the_bits, spelling_is_of_one};
+pub use laws::{bytes_have_the_bits, one_line_is_the_first_bad_one, spelling_is_of_one};
 pub use mon_certificate::{Certificate, Certificates};
 pub use mon_list::OutOfMemory;
-pub use mon_text::TextFault;
+pub use mon_text::FileFault;
 pub use reading::read_certificates;
 pub use writing::write_certificates;
 

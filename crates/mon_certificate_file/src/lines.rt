@@ -2,7 +2,7 @@
 
 ghost use Rattle.std.specs.Prelude.{◌≡◌, codes, decimal, option_map};
 ghost use Rattle.mon_text.specs.Parts.{behind, ended, number_within};
-ghost use Rattle.mon_certificate_file.specs.Reading.{header_in, last_header, port_in, controller_in, miss_in, emission_in, behind_rule, probe_in, overlap_in, count_in, head_in};
+ghost use Rattle.mon_certificate_file.specs.Reading.{header_in, last_header, port_in, controller_in, miss_in, emission_in, behind_rule, probe_in, overlap_in, count_in, nothing_in, head_in};
 
 use crate::headers::header_at;
 use itoa::Buffer;
@@ -87,7 +87,7 @@ fn behind_number(n: u64, text: &[u8]) -> Option<&[u8]>
 
 /// The text behind the number of a rule and a space.
 #[tactic(auto, unfolding(crate::specs::Reading::behind_rule))]
-pub fn behind_rule(rule: u64, text: &[u8]) -> Option<&[u8]>
+fn behind_rule(rule: u64, text: &[u8]) -> Option<&[u8]>
     ensures { option_map (λ rest. rest.now) result ≡ behind_rule rule text.now }
 {
     let rest = behind_number(rule, text)?;
@@ -116,12 +116,21 @@ pub fn overlap_at(rule: u64, text: &[u8]) -> Option<&[u8]>
 
 /// A number and the end of the line.
 #[tactic(auto, unfolding(crate::specs::Reading::count_in))]
-pub fn count_at(text: &[u8]) -> Option<(u64, &[u8])>
+fn count_at(text: &[u8]) -> Option<(u64, &[u8])>
     ensures { option_map (λ p. (p.0, p.1.now)) result ≡ count_in text.now }
 {
     let (n, rest) = number_at(text)?;
     let rest = behind(b"\n", rest)?;
     Some((n, rest))
+}
+
+/// How many refutations the first line of a rule says that no probe shows, behind its first word.
+#[tactic(auto, unfolding(crate::specs::Reading::nothing_in))]
+pub fn nothing_at(rule: u64, text: &[u8]) -> Option<(u64, &[u8])>
+    ensures { option_map (λ p. (p.0, p.1.now)) result ≡ nothing_in rule text.now }
+{
+    let rest = behind_rule(rule, text)?;
+    count_at(rest)
 }
 
 /// The first two lines, of which the second says how many rules there are.

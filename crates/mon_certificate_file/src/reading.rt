@@ -1,31 +1,35 @@
 //! Reading a certificate file.
 
-ghost use Rattle.std.specs.Prelude.{◌≡◌, ℕ, List, IfOk};
+ghost use Rattle.std.specs.Prelude.{◌≡◌, ℕ, List, Some, None, codes, IfOk};
 ghost use Rattle.mon_refute.specs.declared.lines.LogLine.{LogLine};
 ghost use Rattle.mon_refute.specs.Text.{log_text, FitsLog};
 ghost use Rattle.mon_certificate.specs.declared.certificate.Certificate.{Certificate};
-ghost use Rattle.mon_certificate_file.specs.CertificateFile.{logs_text, nothing_text, certificate_text, FitsLogs, FitsCertificate, Spells};
-ghost use Rattle.mon_text.specs.Reads.{ReadsAs, ReadsPart};
-ghost use Rattle.mon_certificate_file.specs.Reading.{PartAt, RowAt};
+ghost use Rattle.mon_certificate_file.specs.CertificateFile.{nothing_text, certificate_text, FitsLogs, FitsCertificate, Spells, IsCertificateFile};
+ghost use Rattle.mon_text.specs.BadLines.{IsBadFrom};
+ghost use Rattle.mon_text.specs.Faults.{FileReadsAs, FailsIn, LinesReadPart, StopsIn};
+ghost use Rattle.mon_text.specs.Parts as parts;
+ghost use Rattle.mon_certificate_file.specs.Reading.{head_in, PartAt, RowAt, IsOne, IsRow, FileAt};
 
-use crate::lines::{behind_rule, count_at, head_at, overlap_at, probe_at};
+use crate::lines::{head_at, nothing_at, overlap_at, probe_at};
 use mon_certificate::{Certificate, Certificates};
 use mon_refute::{Log, Logs, log_at};
-use mon_text::{TextFault, behind};
+use mon_text::{FileFault, LineFault, behind};
 use std::alloc::Global;
 
 /// The refutation at the front, and the text behind it.
-fn one_log(alloc: Global, text: &[u8]) -> Result<(Log, &[u8]), TextFault>
+fn one_log(alloc: Global, text: &[u8]) -> Result<(Log, &[u8]), LineFault<'_>>
     ensures found { IfOk result (λ p. PartAt log_text FitsLog text.now p.0 p.1.now) }
-    ensures only { (log : List LogLine) (rest : List ℕ) → PartAt log_text FitsLog text.now log rest → ReadsPart result log rest }
+    ensures only { (log : List LogLine) (rest : List ℕ) → PartAt log_text FitsLog text.now log rest → LinesReadPart result log rest }
+    ensures stops { StopsIn (IsOne log_text FitsLog) text.now result }
 {
     log_at(alloc, text)
 }
 
 /// So many refutations at the front, and the text behind them.
-fn logs_at(alloc: Global, count: u64, text: &[u8]) -> Result<(Logs, &[u8]), TextFault>
+fn logs_at(alloc: Global, count: u64, text: &[u8]) -> Result<(Logs, &[u8]), LineFault<'_>>
     ensures found { IfOk result (λ p. RowAt (λ _. log_text) FitsLog 0 count text.now p.0 p.1.now) }
-    ensures only { (logs : List (List LogLine)) (rest : List ℕ) → RowAt (λ _. log_text) FitsLog 0 count text.now logs rest → ReadsPart result logs rest }
+    ensures only { (logs : List (List LogLine)) (rest : List ℕ) → RowAt (λ _. log_text) FitsLog 0 count text.now logs rest → LinesReadPart result logs rest }
+    ensures stops { StopsIn (IsRow (λ _. log_text) FitsLog count) text.now result }
 {
     let mut logs = Logs::new(alloc);
     let mut rest = text;
@@ -37,49 +41,50 @@ fn logs_at(alloc: Global, count: u64, text: &[u8]) -> Result<(Logs, &[u8]), Text
     Ok((logs, rest))
 }
 
-/// How many refutations there are and each of them, and the text behind them.
-fn counted_logs_at(alloc: Global, text: &[u8]) -> Result<(Logs, &[u8]), TextFault>
-    ensures found { IfOk result (λ p. PartAt logs_text FitsLogs text.now p.0 p.1.now) }
-    ensures only { (logs : List (List LogLine)) (rest : List ℕ) → PartAt logs_text FitsLogs text.now logs rest → ReadsPart result logs rest }
-{
-    let Some((count, rest)) = count_at(text) else {
-        return Err(TextFault::Bad);
-    };
-    logs_at(alloc, count, rest)
-}
-
-/// The refutations of a rule behind the first word, and the text behind them.
-fn nothing_at(alloc: Global, rule: u64, text: &[u8]) -> Result<(Logs, &[u8]), TextFault>
+/// The refutations of a rule, whose first line is given with what stands behind its first word, and the text behind them.
+fn refuted_at<'a>(
+    alloc: Global,
+    rule: u64,
+    line: &'a [u8],
+    text: &'a [u8],
+) -> Result<(Logs, &'a [u8]), LineFault<'a>>
+    requires { parts.behind (codes "none ") line.now ≡ Some text.now }
     ensures found { IfOk result (λ p. PartAt (nothing_text rule) FitsLogs text.now p.0 p.1.now) }
-    ensures only { (logs : List (List LogLine)) (rest : List ℕ) → PartAt (nothing_text rule) FitsLogs text.now logs rest → ReadsPart result logs rest }
+    ensures only { (logs : List (List LogLine)) (rest : List ℕ) → PartAt (nothing_text rule) FitsLogs text.now logs rest → LinesReadPart result logs rest }
+    ensures stops { StopsIn (IsOne (certificate_text rule) FitsCertificate) line.now result }
 {
-    match behind_rule(rule, text) {
-        Some(rest) => counted_logs_at(alloc, rest),
-        None => Err(TextFault::Bad),
+    match nothing_at(rule, text) {
+        Some((count, rest)) => logs_at(alloc, count, rest),
+        None => Err(LineFault::Bad(line)),
     }
 }
 
 /// What is said of a rule at the front, and the text behind it.
-fn certificate_at(alloc: Global, rule: u64, text: &[u8]) -> Result<(Certificate, &[u8]), TextFault>
+fn certificate_at(
+    alloc: Global,
+    rule: u64,
+    text: &[u8],
+) -> Result<(Certificate, &[u8]), LineFault<'_>>
     ensures found { IfOk result (λ p. PartAt (certificate_text rule) FitsCertificate text.now p.0 p.1.now) }
-    ensures only { (c : Certificate) (rest : List ℕ) → PartAt (certificate_text rule) FitsCertificate text.now c rest → ReadsPart result c rest }
+    ensures only { (c : Certificate) (rest : List ℕ) → PartAt (certificate_text rule) FitsCertificate text.now c rest → LinesReadPart result c rest }
+    ensures stops { StopsIn (IsOne (certificate_text rule) FitsCertificate) text.now result }
 {
     if let Some(rest) = behind(b"probe ", text) {
         return match probe_at(rule, rest) {
             Some(((h, e), rest)) => Ok((Certificate::Probe(h, e), rest)),
-            None => Err(TextFault::Bad),
+            None => Err(LineFault::Bad(text)),
         };
     }
     if let Some(rest) = behind(b"none ", text) {
-        let (logs, rest) = nothing_at(alloc, rule, rest)?;
+        let (logs, rest) = refuted_at(alloc, rule, text, rest)?;
         return Ok((Certificate::Nothing(logs), rest));
     }
     let Some(rest) = behind(b"overlap ", text) else {
-        return Err(TextFault::Bad);
+        return Err(LineFault::Bad(text));
     };
     match overlap_at(rule, rest) {
         Some(rest) => Ok((Certificate::Overlap, rest)),
-        None => Err(TextFault::Bad),
+        None => Err(LineFault::Bad(text)),
     }
 }
 
@@ -88,9 +93,10 @@ fn certificates_at(
     alloc: Global,
     count: u64,
     text: &[u8],
-) -> Result<(Certificates, &[u8]), TextFault>
+) -> Result<(Certificates, &[u8]), LineFault<'_>>
     ensures found { IfOk result (λ p. RowAt certificate_text FitsCertificate 0 count text.now p.0 p.1.now) }
-    ensures only { (cs : List Certificate) (rest : List ℕ) → RowAt certificate_text FitsCertificate 0 count text.now cs rest → ReadsPart result cs rest }
+    ensures only { (cs : List Certificate) (rest : List ℕ) → RowAt certificate_text FitsCertificate 0 count text.now cs rest → LinesReadPart result cs rest }
+    ensures stops { StopsIn (IsRow certificate_text FitsCertificate count) text.now result }
 {
     let mut certificates = Certificates::new(alloc);
     let mut rest = text;
@@ -100,6 +106,29 @@ fn certificates_at(
         rest = after;
     }
     Ok((certificates, rest))
+}
+
+/// The text from the first bad line on, which is one of the first two.
+fn bad_head(text: &[u8]) -> &[u8]
+    requires { head_in text.now ≡ None }
+    ensures { IsBadFrom IsCertificateFile text.now result.now }
+{
+    match behind(b"monocle-certificates 1\n", text) {
+        Some(rest) => rest,
+        None => text,
+    }
+}
+
+/// The certificates of all lines, and the text behind them.
+fn file_at(alloc: Global, text: &[u8]) -> Result<(Certificates, &[u8]), LineFault<'_>>
+    ensures found { IfOk result (λ p. FileAt text.now p.0 p.1.now) }
+    ensures only { (cs : List Certificate) (rest : List ℕ) → FileAt text.now cs rest → LinesReadPart result cs rest }
+    ensures stops { StopsIn IsCertificateFile text.now result }
+{
+    match head_at(text) {
+        Some((count, rest)) => certificates_at(alloc, count, rest),
+        None => Err(LineFault::Bad(bad_head(text))),
+    }
 }
 
 /// The certificates of a file: the lines
@@ -113,19 +142,22 @@ fn certificates_at(
 ///
 /// A HEADER is the 264 bits of a header in 66 lower hexadecimal digits. Numbers are decimal without leading zeros; P is 0
 /// to 65535, and the others are below 2^64. One space parts two words, and a line feed ends each line. A text in any other
-/// form is `Bad`.
-pub fn read_certificates(alloc: Global, text: &[u8]) -> Result<Certificates, TextFault>
+/// form is `Bad`, from its first bad line on.
+pub fn read_certificates(alloc: Global, text: &[u8]) -> Result<Certificates, FileFault>
     // What is read is spelled so.
     ensures found { IfOk result (Spells text.now) }
     // The text of certificates is read as these, unless memory runs out. So a text is bad only where it is of none.
-    ensures only { (cs : List Certificate) → Spells text.now cs → ReadsAs (λ read. read ≡ cs) result }
+    ensures only { (cs : List Certificate) → Spells text.now cs → FileReadsAs (λ read. read ≡ cs) result }
+    // What is refused is bad at the first bad line.
+    ensures fails { FailsIn IsCertificateFile text.now result }
 {
-    let Some((count, rest)) = head_at(text) else {
-        return Err(TextFault::Bad);
-    };
-    let (certificates, rest) = certificates_at(alloc, count, rest)?;
-    if !rest.is_empty() {
-        return Err(TextFault::Bad);
+    match file_at(alloc, text) {
+        Ok((certificates, rest)) => {
+            if !rest.is_empty() {
+                return Err(LineFault::Bad(rest).within(text));
+            }
+            Ok(certificates)
+        }
+        Err(fault) => Err(fault.within(text)),
     }
-    Ok(certificates)
 }

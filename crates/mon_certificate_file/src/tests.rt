@@ -70,10 +70,11 @@ fn is_tied(c: &Certificate) -> bool {
     }
 }
 
-fn is_bad(alloc: Global, text: &[u8]) -> bool {
+/// Where the first bad line begins, if the text is bad.
+fn bad_at(alloc: Global, text: &[u8]) -> Option<u64> {
     match read_certificates(alloc, text) {
-        Err(TextFault::Bad) => true,
-        _ => false,
+        Err(FileFault::Bad { offset }) => Some(offset),
+        _ => None,
     }
 }
 
@@ -110,35 +111,52 @@ fn each_kind_is_read_and_written(rt: HostRuntime) -> Result<(), Fail> {
     Ok(())
 }
 
-const BAD: [&str; 17] = [
-    "",
-    "monocle-certificates 2\nrules 0\n",
-    "monocle-certificates 1\n",
+/// Texts of no certificates, and where the first bad line begins.
+const BAD: [(&str, u64); 18] = [
+    ("", 0),
+    ("monocle-certificates 2\nrules 0\n", 0),
+    ("monocle-certificates 1\n", 23),
     // Rules out of order, or too many or too few.
-    "monocle-certificates 1\nrules 2\noverlap 1\noverlap 0\n",
-    "monocle-certificates 1\nrules 1\noverlap 1\n",
-    "monocle-certificates 1\nrules 3\noverlap 0\noverlap 1\n",
-    "monocle-certificates 1\nrules 1\noverlap 0\noverlap 1\n",
-    "monocle-certificates 1\nrules 01\noverlap 0\n",
+    (
+        "monocle-certificates 1\nrules 2\noverlap 1\noverlap 0\n",
+        31,
+    ),
+    ("monocle-certificates 1\nrules 1\noverlap 1\n", 31),
+    (
+        "monocle-certificates 1\nrules 3\noverlap 0\noverlap 1\n",
+        51,
+    ),
+    ("monocle-certificates 1\nrules 2\noverlap 0\n", 41),
+    (
+        "monocle-certificates 1\nrules 1\noverlap 0\noverlap 1\n",
+        41,
+    ),
+    ("monocle-certificates 1\nrules 01\noverlap 0\n", 23),
     // The end of the last line, and text behind it.
-    "monocle-certificates 1\nrules 1\noverlap 0",
-    "monocle-certificates 1\nrules 1\noverlap 0\n\n",
-    "monocle-certificates 1\nrules 1\noverlap 0 \n",
+    ("monocle-certificates 1\nrules 1\noverlap 0", 31),
+    ("monocle-certificates 1\nrules 1\noverlap 0\n\n", 41),
+    ("monocle-certificates 1\nrules 1\noverlap 0 \n", 31),
     // Another word, or two spaces.
-    "monocle-certificates 1\nrules 1\ntied 0\n",
-    "monocle-certificates 1\nrules 1\noverlap  0\n",
+    ("monocle-certificates 1\nrules 1\ntied 0\n", 31),
+    ("monocle-certificates 1\nrules 1\noverlap  0\n", 31),
     // A log more or less, and one that is none.
-    "monocle-certificates 1\nrules 1\nnone 0 2\nlog 0\n",
-    "monocle-certificates 1\nrules 1\nnone 0 0\nlog 0\n",
-    "monocle-certificates 1\nrules 1\nnone 0 1\nlog 1\nl 0 0 0\n",
+    ("monocle-certificates 1\nrules 1\nnone 0 2\nlog 0\n", 46),
+    ("monocle-certificates 1\nrules 1\nnone 0 0\nlog 0\n", 40),
+    (
+        "monocle-certificates 1\nrules 1\nnone 0 1\nlog 1\nl 0 0 0\n",
+        46,
+    ),
     // A hint beyond 64 bits, whose low ones say 3.
-    "monocle-certificates 1\nrules 1\nnone 0 1\nlog 1\nl 0 18446744073709551619 0\n",
+    (
+        "monocle-certificates 1\nrules 1\nnone 0 1\nlog 1\nl 0 18446744073709551619 0\n",
+        46,
+    ),
 ];
 
 #[test]
 fn other_texts_are_refused(rt: HostRuntime) {
-    for text in BAD {
-        assert!(rt; is_bad(rt.alloc(), text.as_bytes()), "{text}");
+    for (text, at) in BAD {
+        assert!(rt; bad_at(rt.alloc(), text.as_bytes()) == Some(at), "{text}");
     }
 }
 
@@ -167,7 +185,10 @@ fn other_probes_are_refused(rt: HostRuntime) -> Result<(), Fail> {
     ];
     for (header, emission, digits, bad) in cases {
         let text = file_of(rt.alloc(), header, emission, digits)?;
-        assert!(rt; is_bad(rt.alloc(), text.as_bytes()) == bad, "{text}");
+        assert!(rt;
+            bad_at(rt.alloc(), text.as_bytes()).is_some() == bad,
+            "{text}"
+        );
     }
     Ok(())
 }

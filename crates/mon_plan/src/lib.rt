@@ -9,7 +9,7 @@
 //! memory of the certificates and of one search. A job owns its view and its slice, which are copied for it.
 //!
 //! The files that tables and certificates come from and go to, and the generator of tables, are named here again: this is
-//! the one door to them, with their fault.
+//! the one door to them, with their faults.
 #![tactic(auto)]
 
 mod check;
@@ -24,6 +24,6 @@ pub use mon_certificate::{Certificate, Certificates};
 pub use mon_certificate_file::{read_certificates, write_certificates};
 pub use mon_list::OutOfMemory;
 pub use mon_table_file::{generate, read_table};
-pub use mon_text::TextFault as FileFault;
+pub use mon_text::{FileFault, TextFault};
 pub use plan::plan_table;
 pub use summary::Summary;

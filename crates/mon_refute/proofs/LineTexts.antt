@@ -1,12 +1,12 @@
 -- Lines and logs are spelled in one way.
-use Rattle.std.proofs.Common.{◌≡◌, ◌≢◌, ℕ, ◌+◌, ◌^◌, ◌<◌, ◌≤◌, refl, sym, ap, ◌∙◌, subst, List, [], ◌∷◌, ◌++◌, length, Err, arith, decimal, append_assoc, codes, length-append}
+use Rattle.std.proofs.Common.{◌≡◌, ◌≢◌, ℕ, ◌+◌, ◌^◌, ◌<◌, ◌≤◌, refl, sym, ap, ◌∙◌, subst, List, [], ◌∷◌, ◌++◌, length, arith, decimal, append_assoc, codes, length-append}
 use Rattle.std.specs.List.{flat_map, AllByRecursion}
 use Rattle.std.proofs.lemmas.List.{append-nil}
 use Rattle.mon_cnf.specs.declared.clause.Lit.{Lit}
 use Rattle.mon_refute.specs.declared.lines.LogLine.{LogLine}
 use Rattle.mon_text.specs.declared.fault.TextFault.{TextFault}
 use Rattle.mon_text.specs.declared.fault.TextFault.TheVariants.{Bad, OutOfMemory}
-use Rattle.mon_text.specs.Reads.{OnBad, ReadsPart}
+use Rattle.mon_text.specs.Reads.{OnBad}
 use Rattle.mon_refute.specs.Text.{literals_text, hints_text, line_text, log_text, FitsLiteral, FitsHint, FitsLiterals, FitsHints, FitsLine, Spells}
 use Rattle.mon_text.specs.Numbers.{NoDigit, NoneAt, FoundAt, FitsNumber}
 use Rattle.mon_refute.specs.Reading.{literal_word, hint_word, LineAt, NoLineAt, LinesAt, NoLinesAt, CountAt, NoCountAt, LogAt}
@@ -60,7 +60,7 @@ no_end bytes r1 r2 r3 c hs e f g n l rest h = n rest (behind_hints bytes r1 r2 r
 line_parts : (c d : List Lit) (hs ks : List ℕ) → c ≡ d → hs ≡ ks → (let l : LogLine = record { literals = c; hints = hs } in l) ≡ record { literals = d; hints = ks }
 line_parts c d hs ks e f = cc
 
-line_once : (l m : LogLine) (r s : List ℕ) → FitsLine l → FitsLine m → line_text l ++ r ≡ line_text m ++ s → (l ≡ m) × (r ≡ s)
+pub line_once : (l m : LogLine) (r s : List ℕ) → FitsLine l → FitsLine m → line_text l ++ r ≡ line_text m ++ s → (l ≡ m) × (r ≡ s)
 line_once l m r s f g e =
     let a = literals_once l.literals m.literals _ _ f.0 g.0 (hints_next l.hints (10 ∷ r)) (hints_next m.hints (10 ∷ s)) (tails 108 108 _ _ (sym (line_is l r) ∙ e ∙ line_is m s)) in
     let b = hints_once l.hints m.hints _ _ f.1 g.1 (no_feed r) (no_feed s) a.1 in
@@ -69,7 +69,7 @@ line_once l m r s f g e =
 cons_lines : (l m : LogLine) (ls ms : List LogLine) → l ≡ m → ls ≡ ms → l ∷ ls ≡ m ∷ ms
 cons_lines l m ls ms e f = cc
 
-lines_once : (ls ms : List LogLine) (r s : List ℕ) → length ls ≡ length ms → AllByRecursion FitsLine ls → AllByRecursion FitsLine ms → flat_map line_text ls ++ r ≡ flat_map line_text ms ++ s → (ls ≡ ms) × (r ≡ s)
+pub lines_once : (ls ms : List LogLine) (r s : List ℕ) → length ls ≡ length ms → AllByRecursion FitsLine ls → AllByRecursion FitsLine ms → flat_map line_text ls ++ r ≡ flat_map line_text ms ++ s → (ls ≡ ms) × (r ≡ s)
 lines_once [] [] r s n f g e = (refl, e)
 lines_once [] (m ∷ ms) r s n f g e = absurd (omega arith)
 lines_once (l ∷ ls) [] r s n f g e = absurd (omega arith)
@@ -78,7 +78,7 @@ lines_once (l ∷ ls) (m ∷ ms) r s n f g e =
     let b = lines_once ls ms r s (omega arith) f.1 g.1 a.1 in
     (cons_lines l m ls ms a.0 b.0, b.1)
 
-lines_none : (front ls : List LogLine) (rest after : List ℕ) → length front < length ls → AllByRecursion FitsLine front → AllByRecursion FitsLine ls → NoLineAt rest
+pub lines_none : (front ls : List LogLine) (rest after : List ℕ) → length front < length ls → AllByRecursion FitsLine front → AllByRecursion FitsLine ls → NoLineAt rest
     → flat_map line_text front ++ rest ≡ flat_map line_text ls ++ after → ⊥
 lines_none [] [] rest after w f g n e = omega arith
 lines_none [] (l ∷ ls) rest after w f g n e = n l (flat_map line_text ls ++ after) (record { is = e ∙ append_assoc (line_text l) (flat_map line_text ls) after; fits = g.0 })
@@ -86,10 +86,6 @@ lines_none (x ∷ xs) [] rest after w f g n e = omega arith
 lines_none (x ∷ xs) (l ∷ ls) rest after w f g n e =
     let a = line_once x l _ _ f.0 g.0 (sym (append_assoc (line_text x) (flat_map line_text xs) rest) ∙ e ∙ append_assoc (line_text l) (flat_map line_text ls) after) in
     lines_none xs ls rest after (omega arith) f.1 g.1 n a.1
-
-pub no_line : (bytes rest : List ℕ) (count i : ℕ) (front : List LogLine) (f : TextFault) → i < count → LinesAt bytes i front rest → OnBad f (NoLineAt rest) → OnBad f (NoLinesAt bytes count)
-no_line bytes rest count i front Bad w s n = λ log after h. lines_none front log rest after (omega (arith, s.count_is, h.count_is)) s.fit h.fit n (sym s.is ∙ h.is)
-no_line bytes rest count i front OutOfMemory w s n = tt
 
 pub one_line : (bytes rest after : List ℕ) (i : ℕ) (front new : List LogLine) (l : LogLine) → LinesAt bytes i front rest → LineAt rest l after → new ≡ front ++ (l ∷ []) → LinesAt bytes (i + 1) new after
 one_line bytes rest after i front new l s h g = subst (λ ls. LinesAt bytes (i + 1) ls after) (sym g) (record {
@@ -107,20 +103,19 @@ count_once m n r s f g e =
 log_is : (log : List LogLine) (rest : List ℕ) → log_text log ++ rest ≡ codes "log " ++ (decimal (length log) ++ (10 ∷ (flat_map line_text log ++ rest)))
 log_is log rest = ap (λ xs. codes "log " ++ xs) (append_assoc (decimal (length log)) (10 ∷ flat_map line_text log) rest)
 
-log_count : (bytes : List ℕ) (log : List LogLine) (rest : List ℕ) → LogAt bytes log rest → CountAt bytes (length log) (flat_map line_text log ++ rest)
+pub log_count : (bytes : List ℕ) (log : List LogLine) (rest : List ℕ) → LogAt bytes log rest → CountAt bytes (length log) (flat_map line_text log ++ rest)
 log_count bytes log rest a = record { is = a.is ∙ log_is log rest; fits = a.fits.0 }
 
 pub bad_count : (bytes : List ℕ) → NoCountAt bytes → (log : List LogLine) (rest : List ℕ) → LogAt bytes log rest → ⊥
 bad_count bytes n log rest a = n (length log) (flat_map line_text log ++ rest) (log_count bytes log rest a)
 
-log_lines : (bytes lines : List ℕ) (count : ℕ) (log : List LogLine) (rest : List ℕ) → CountAt bytes count lines → LogAt bytes log rest → LinesAt lines count log rest
+pub log_lines : (bytes lines : List ℕ) (count : ℕ) (log : List LogLine) (rest : List ℕ) → CountAt bytes count lines → LogAt bytes log rest → LinesAt lines count log rest
 log_lines bytes lines count log rest c a =
     let k = count_once count (length log) lines (flat_map line_text log ++ rest) c.fits a.fits.0 (sym c.is ∙ a.is ∙ log_is log rest) in
     record { is = k.1; count_is = sym k.0; fit = a.fits.1 }
 
-pub bad_lines : (bytes lines : List ℕ) (count : ℕ) (f : TextFault) → CountAt bytes count lines → OnBad f (NoLinesAt lines count) → (log : List LogLine) (rest : List ℕ) → LogAt bytes log rest → ReadsPart {X = List LogLine} (Err f) log rest
-bad_lines bytes lines count Bad c n log rest a = n log rest (log_lines bytes lines count log rest c a)
-bad_lines bytes lines count OutOfMemory c n log rest a = tt
+pub bad_lines : (bytes lines : List ℕ) (count : ℕ) → CountAt bytes count lines → NoLinesAt lines count → (log : List LogLine) (rest : List ℕ) → LogAt bytes log rest → ⊥
+bad_lines bytes lines count c n log rest a = n log rest (log_lines bytes lines count log rest c a)
 
 pub log_once : (bytes lines after : List ℕ) (count : ℕ) (read log : List LogLine) (rest : List ℕ) → CountAt bytes count lines → LinesAt lines count read after → LogAt bytes log rest → (read ≡ log) × (after ≡ rest)
 log_once bytes lines after count read log rest c l a =

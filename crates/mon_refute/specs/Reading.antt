@@ -46,6 +46,13 @@ pub record LinesAt (bytes : List ℕ) (count : ℕ) (log : List LogLine) (rest :
 abbrev pub NoLinesAt : List ℕ → ℕ → Type 0
 NoLinesAt bytes count = (log : List LogLine) (rest : List ℕ) → LinesAt bytes count log rest → ⊥
 
+-- fewer lines stand at the front, and none behind them
+pub record StopsBehind (bytes : List ℕ) (count : ℕ) (back : List ℕ) : Type 0 where
+  pub front : List LogLine
+  pub read : LinesAt bytes (length front) front back
+  pub few : length front < count
+  pub none : NoLineAt back
+
 -- the first line of a log says this count
 pub record CountAt (bytes : List ℕ) (count : ℕ) (rest : List ℕ) : Type 0 where
   pub is : bytes ≡ codes "log " ++ (decimal count ++ (10 ∷ rest))

@@ -53,3 +53,7 @@ FitsLog log = (length log < 2 ^ 64) × AllByRecursion FitsLine log
 pub record Spells (text : List ℕ) (log : List LogLine) : Type 0 where
   pub is : text ≡ log_text log
   pub fits : FitsLog log
+
+-- the text is of some log
+abbrev pub IsLogText : List ℕ → Type 0
+IsLogText text = (log : List LogLine) × Spells text log

@@ -8,7 +8,7 @@
 //!
 //! `accepts` reads a log in one pass, in time linear in the literals that its hints name, and takes no memory: what is
 //! known of each variable stands in a mark that the caller lends. `read_log` and `write_log` are a log's text; `log_at` reads
-//! one that stands in front of others.
+//! one that stands in front of others. A text of no log is refused with the offset of its first bad line.
 #![tactic(auto)]
 
 mod check;
@@ -21,8 +21,8 @@ mod write;
 pub use check::{accepted_means_none, accepts};
 pub use lines::{Hints, Log, LogLine, Logs};
 pub use mon_list::OutOfMemory;
-pub use mon_text::TextFault as LogFault;
-pub use read::{log_at, read_log};
+pub use mon_text::FileFault as LogFault;
+pub use read::{log_at, one_line_is_the_first_bad_one, read_log};
 pub use write::write_log;
 
 #[cfg(test)]

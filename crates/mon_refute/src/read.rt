@@ -1,17 +1,19 @@
 //! Reading the text of a log.
 
 ghost use Rattle.std.specs.Prelude.{◌≡◌, ◌≢◌, ℕ, List, Option, MatchOption, MatchResult, IfOk};
-ghost use Rattle.mon_refute.specs.Text.{literals_text, hints_text, FitsLiteral, FitsLiterals, FitsHint, FitsHints, Spells};
+ghost use Rattle.mon_refute.specs.Text.{literals_text, hints_text, FitsLiteral, FitsLiterals, FitsHint, FitsHints, Spells, IsLogText};
 ghost use Rattle.mon_text.specs.Numbers.{FoundAt, NoneAt};
-ghost use Rattle.mon_text.specs.Reads.{OnBad, ReadsAs, ReadsPart};
-ghost use Rattle.mon_refute.specs.Reading.{literal_word, hint_word, word_item, FitsSome, LineAt, NoLineAt, LinesAt, NoLinesAt, CountAt, NoCountAt, LogAt};
+ghost use Rattle.mon_text.specs.Reads.{OnBad};
+ghost use Rattle.mon_text.specs.BadLines.{IsFirstBadLine};
+ghost use Rattle.mon_text.specs.Faults.{OnBadFrom, FileReadsAs, FailsIn, LinesReadPart, StopsIn};
+ghost use Rattle.mon_refute.specs.Reading.{literal_word, hint_word, word_item, FitsSome, LineAt, NoLineAt, LinesAt, StopsBehind, CountAt, NoCountAt, LogAt};
 ghost use Rattle.mon_refute.specs.declared.lines.LogLine.{LogLine};
 ghost use Rattle.mon_cnf.specs.declared.clause.Lit.{Lit};
 
 use crate::lines::{Hints, Log, LogLine};
 use crate::number::{Word, word_at};
 use mon_cnf::{Clause, Lit};
-use mon_text::{TextFault, behind, number_at};
+use mon_text::{FileFault, LineFault, TextFault, behind, number_at};
 use std::alloc::Global;
 
 /// The literal that the word stands for, or no literal for the 0 that ends them. Nothing where it stands for neither.
@@ -122,15 +124,20 @@ fn line_at(alloc: Global, bytes: &[u8]) -> Result<(LogLine, &[u8]), TextFault>
 }
 
 /// So many lines at the front.
-fn lines_at(alloc: Global, count: u64, bytes: &[u8]) -> Result<(Log, &[u8]), TextFault>
-    ensures { MatchResult result (λ x. LinesAt bytes.now count x.0 x.1.now) (λ e. OnBad e (NoLinesAt bytes.now count)) }
+fn lines_at(alloc: Global, count: u64, bytes: &[u8]) -> Result<(Log, &[u8]), LineFault<'_>>
+    ensures { MatchResult result (λ x. LinesAt bytes.now count x.0 x.1.now) (λ e. OnBadFrom e (StopsBehind bytes.now count)) }
 {
     let mut log = Log::new(alloc);
     let mut rest = bytes;
     for _ in 0..count {
-        let (line, after) = line_at(alloc, rest)?;
-        log.push(line)?;
-        rest = after;
+        match line_at(alloc, rest) {
+            Ok((line, after)) => {
+                log.push(line)?;
+                rest = after;
+            }
+            Err(TextFault::Bad) => return Err(LineFault::Bad(rest)),
+            Err(TextFault::OutOfMemory) => return Err(LineFault::OutOfMemory),
+        }
     }
     Ok((log, rest))
 }
@@ -153,17 +160,18 @@ fn count_at(bytes: &[u8]) -> Option<(u64, &[u8])>
 
 /// The log whose text stands at the front, as `read_log` describes it, and what stands behind it. It is refused where the
 /// text of no log stands there.
-pub fn log_at(alloc: Global, bytes: &[u8]) -> Result<(Log, &[u8]), TextFault>
+pub fn log_at(alloc: Global, bytes: &[u8]) -> Result<(Log, &[u8]), LineFault<'_>>
     // What is read is spelled so.
     ensures found { IfOk result (λ x. LogAt bytes.now x.0 x.1.now) }
     // The text of a log is read as that log, unless memory runs out, whatever stands behind it.
-    ensures only { (log : List LogLine) (rest : List ℕ) → LogAt bytes.now log rest → ReadsPart result log rest }
+    ensures only { (log : List LogLine) (rest : List ℕ) → LogAt bytes.now log rest → LinesReadPart result log rest }
+    // What is refused is bad from the first bad line on.
+    ensures stops { StopsIn IsLogText bytes.now result }
 {
     let Some((count, rest)) = count_at(bytes) else {
-        return Err(TextFault::Bad);
+        return Err(LineFault::Bad(bytes));
     };
-    let (log, rest) = lines_at(alloc, count, rest)?;
-    Ok((log, rest))
+    lines_at(alloc, count, rest)
 }
 
 /// The log that the text is of. A text that is of no log is refused.
@@ -172,15 +180,28 @@ pub fn log_at(alloc: Global, bytes: &[u8]) -> Result<(Log, &[u8]), TextFault>
 /// the hints and `0`, with a single space between two words. A line feed ends each line, the last one too. The first
 /// variable is written `1` and its negation `-1`, and so on to `4294967296`. No number has a leading zero, L and the
 /// hints are below 2^64, and no hint is 0.
-pub fn read_log(alloc: Global, text: &str) -> Result<Log, TextFault>
+pub fn read_log(alloc: Global, text: &str) -> Result<Log, FileFault>
     // What is read is spelled so.
     ensures found { IfOk result (Spells text.now) }
     // The text of a log is read as that log, unless memory runs out. So a text is bad only where it is of no log.
-    ensures only { (log : List LogLine) → Spells text.now log → ReadsAs (λ read. read ≡ log) result }
+    ensures only { (log : List LogLine) → Spells text.now log → FileReadsAs (λ read. read ≡ log) result }
+    // What is refused is bad at the first bad line.
+    ensures fails { FailsIn IsLogText text.now result }
 {
-    let (log, rest) = log_at(alloc, text.as_bytes())?;
-    if !rest.is_empty() {
-        return Err(TextFault::Bad);
+    let bytes = text.as_bytes();
+    match log_at(alloc, bytes) {
+        Ok((log, rest)) => {
+            if !rest.is_empty() {
+                return Err(LineFault::Bad(rest).within(bytes));
+            }
+            Ok(log)
+        }
+        Err(fault) => Err(fault.within(bytes)),
     }
-    Ok(log)
 }
+
+/// A text has at most one first bad line, so the offset that `read_log` gives is a function of the text. The function does
+/// nothing: it is its law.
+pub fn one_line_is_the_first_bad_one()
+    ensures { (text : List ℕ) (a b : ℕ) → IsFirstBadLine IsLogText text a → IsFirstBadLine IsLogText text b → a ≡ b }
+{}

@@ -5,6 +5,7 @@ ghost use Rattle.mon_cnf.specs.Truth.{Within};
 
 use super::*;
 use mon_cnf::{Clause, Formula, Lit};
+use mon_text::LineFault;
 use std::alloc::Global;
 use std::test::*;
 
@@ -74,36 +75,38 @@ fn accepts_logs(rt: HostRuntime) {
     }
 }
 
-const BAD: [&str; 22] = [
-    "",
-    "log",
-    "log 0",
-    "log 00\n",
-    "log -0\n",
-    "log 1\n",
-    "log 0\n\n",
-    "log 0\nl 0 0\n",
-    "Log 0\n",
-    "log  0\n",
-    "log 18446744073709551616\n",
-    "log 1\nl 0 3 0",
-    "log 1\nl 0 3  0\n",
-    "log 1\nl 0 3 0 \n",
-    "log 1\nl  0 3 0\n",
-    "log 1\nl 0 3\n",
-    "log 1\nl -0 0 0\n",
-    "log 1\nl 01 0 3 0\n",
-    "log 1\nl +1 0 3 0\n",
-    "log 1\nl 4294967297 0 3 0\n",
-    "log 1\nl 0 -3 0\n",
-    "log 1\nl 0 18446744073709551616 0\n",
+/// Texts of no log, and where the first bad line begins.
+const BAD: [(&str, u64); 23] = [
+    ("", 0),
+    ("log", 0),
+    ("log 0", 0),
+    ("log 00\n", 0),
+    ("log -0\n", 0),
+    ("log 1\n", 6),
+    ("log 0\n\n", 6),
+    ("log 0\nl 0 0\n", 6),
+    ("Log 0\n", 0),
+    ("log  0\n", 0),
+    ("log 18446744073709551616\n", 0),
+    ("log 1\nl 0 3 0", 6),
+    ("log 1\nl 0 3  0\n", 6),
+    ("log 1\nl 0 3 0 \n", 6),
+    ("log 1\nl  0 3 0\n", 6),
+    ("log 1\nl 0 3\n", 6),
+    ("log 1\nl -0 0 0\n", 6),
+    ("log 1\nl 01 0 3 0\n", 6),
+    ("log 1\nl +1 0 3 0\n", 6),
+    ("log 1\nl 4294967297 0 3 0\n", 6),
+    ("log 1\nl 0 -3 0\n", 6),
+    ("log 1\nl 0 18446744073709551616 0\n", 6),
+    ("log 3\nl 0 3 0\nl 0 3\nl 0\n", 14),
 ];
 
 #[test]
 fn reads_texts(rt: HostRuntime) {
-    for text in BAD {
+    for (text, at) in BAD {
         assert!(rt;
-            matches!(read_log(rt.alloc(), text), Err(LogFault::Bad)),
+            matches!(read_log(rt.alloc(), text), Err(LogFault::Bad { offset }) if offset == at),
             "{text}"
         );
     }
@@ -122,10 +125,8 @@ fn reads_a_log_before_others(rt: HostRuntime) {
     let (log, rest) = log_at(rt.alloc(), texts).expect(&rt, "a log");
     assert_eq!(rt; log.items().len(), 1);
     assert_eq!(rt; rest, b"log 0\n".as_slice());
-    assert!(rt;
-        matches!(
-            log_at(rt.alloc(), b"log 2\nl 0 3 0\nlog 0\n"),
-            Err(LogFault::Bad)
-        )
-    );
+    match log_at(rt.alloc(), b"log 2\nl 0 3 0\nlog 0\n") {
+        Err(LineFault::Bad(rest)) => assert_eq!(rt; rest, b"log 0\n".as_slice()),
+        _ => assert!(rt; false),
+    }
 }

@@ -5,3 +5,4 @@ pub mod Making
 pub mod Sheeting
 pub mod SoFar
 pub mod Tagging
+pub mod Leaving

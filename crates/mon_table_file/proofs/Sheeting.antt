@@ -13,7 +13,7 @@ use Rattle.mon_text.proofs.Joining.{reader_many}
 use Rattle.mon_table_file.specs.Filling.{AreApart, IsTableOf}
 use Rattle.mon_table_file.specs.Lines.{first_line, switch_line, tags_line, miss_line, link_line, IsTag, FitsNear, Row, rule_line, FitsRow, rule_given}
 use Rattle.mon_table_file.specs.TableFile.{FitsView, FitsLink, IsTableFile}
-use Rattle.mon_table_file.specs.Reading.{Heading, heading_text, head_in, link_in, row_in, AreRead, view_given}
+use Rattle.mon_table_file.specs.Reading.{Heading, heading_text, FitsHeading, head_in, link_in, row_in, AreRead, view_given}
 use Rattle.mon_table_file.specs.Sheets.{IsSheet}
 use Rattle.mon_table_file.proofs.Apart.{one-table}
 use Rattle.mon_table_file.proofs.LineReaders.{reader_heading, reader_link, reader_row, no_link, no_row}
@@ -60,7 +60,7 @@ module _ (text behind_head behind_links rest : List ℕ) (h : Heading) (links : 
 abbrev pub head_of : Viewing → Heading
 head_of v = record { switch = v.switch; tag = v.tag; tags = v.tags; miss = v.miss }
 
-lines_are : (v : Viewing) (rest : List ℕ) → heading_text (head_of v) ++ rest ≡ first_line ++ (switch_line v.switch v.tag ++ (tags_line v.tags ++ (miss_line v.miss ++ rest)))
+pub lines_are : (v : Viewing) (rest : List ℕ) → heading_text (head_of v) ++ rest ≡ first_line ++ (switch_line v.switch v.tag ++ (tags_line v.tags ++ (miss_line v.miss ++ rest)))
 lines_are v rest =
     append_assoc first_line (switch_line v.switch v.tag ++ (tags_line v.tags ++ miss_line v.miss)) rest
     ∙ ap (λ t. first_line ++ t) (append_assoc (switch_line v.switch v.tag) (tags_line v.tags ++ miss_line v.miss) rest)
@@ -70,15 +70,18 @@ tags_fit : (low : ℕ) (tags : List ℕ) → 1 ≤ low → Ascends low 4094 tags
 tags_fit low [] least up = tt
 tags_fit low (t ∷ tags) least up = ((let k : low ≤ t = up.0 in omega arith, up.1), tags_fit (suc t) tags (omega arith) up.2)
 
-near_fit : (v : Viewing) (links : List Near) → AllByRecursion (FitsLink v) links → AllByRecursion FitsNear links
+pub near_fit : (v : Viewing) (links : List Near) → AllByRecursion (FitsLink v) links → AllByRecursion FitsNear links
 near_fit v [] all = tt
 near_fit v (n ∷ ns) all = (all.0.near, near_fit v ns all.1)
+
+pub head_fits : (v : Viewing) → FitsView v → FitsHeading (head_of v)
+head_fits v f = record { switch = f.switch; tag = tag_in_range v.tags v.tag f.tags f.in_use; tags = (f.few, tags_fit 1 v.tags (omega arith) f.tags); miss = f.miss }
 
 pub file_sheet : (text : List ℕ) (v : Viewing) (t : List Rule) (f : IsTableFile text v t) → IsSheet text (head_of v) v.links (map rule_given f.rows)
 file_sheet text v t f = record {
   rows = f.rows;
   is = f.is ∙ sym (lines_are v (flat_map link_line v.links ++ flat_map rule_line f.rows));
-  head = record { switch = f.view.switch; tag = tag_in_range v.tags v.tag f.view.tags f.view.in_use; tags = (f.view.few, tags_fit 1 v.tags (omega arith) f.view.tags); miss = f.view.miss };
+  head = head_fits v f.view;
   near = near_fit v v.links f.view.links;
   fit = f.fit;
   given = refl;

@@ -45,3 +45,7 @@ pub record IsTableFile (text : List ℕ) (v : Viewing) (t : List Rule) : Type 0 
   pub fit : AllByRecursion FitsRow rows
   pub apart : AreApart (map rule_given rows)
   pub table : IsTableOf (map rule_given rows) t
+
+-- the text is the file of some view and table
+abbrev pub IsTableText : List ℕ → Type 0
+IsTableText text = (v : Viewing) × (t : List Rule) × IsTableFile text v t

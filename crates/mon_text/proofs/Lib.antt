@@ -1,9 +1,13 @@
 pub mod Decoding
 pub mod Encoding
+pub mod Faulting
+pub mod Feedless
 pub mod Fronts
 pub mod Growing
 pub mod InDigits
 pub mod Joining
+pub mod OneOffset
 pub mod Pairs
 pub mod Spelling
+pub mod Stopping
 pub mod Valuing

@@ -1,3 +1,5 @@
+pub mod BadLines
+pub mod Faults
 pub mod Hex
 pub mod Numbers
 pub mod Parts

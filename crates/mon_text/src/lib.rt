@@ -16,7 +16,7 @@ mod parts;
 #[cfg(test)]
 mod tests;
 
-pub use fault::TextFault;
+pub use fault::{FileFault, LineFault, TextFault};
 pub use hexadecimal::{byte_of, digits, push_digits, read_digits, take_run};
 pub use mon_list::OutOfMemory;
 pub use numbers::number_at;

@@ -9,7 +9,7 @@ use Rattle.mon_words.specs.Words.{Spells}
 use Rattle.mon_world.specs.declared.calls.Call.{Call}
 use Rattle.mon_world.specs.declared.calls.Call.TheVariants.{Read, Write, Say}
 use Rattle.monocle.specs.Calls.{said_by}
-use Rattle.monocle.specs.Ending.{unread, IsSay, IsWant, IsReadEnd, IsWriteEnd, reads_of, IsSourceEnd, IsTraceEnd, IsFileEnd, IsEndOf, IsEndFor}
+use Rattle.monocle.specs.Ending.{unread, bad_at, IsSay, IsWant, IsReadEnd, IsWriteEnd, reads_of, IsSourceEnd, IsTraceEnd, IsFileEnd, IsEndOf, IsEndFor}
 use Rattle.monocle.specs.Planning.{Contents, GivesNone, GivesSome, HasNoSpelling}
 use Rattle.monocle.specs.Replay.{IsTraceFile, IsNoTrace}
 
@@ -80,9 +80,9 @@ pub file-unread : (told : Option Contents) (name : List ℕ) (status : ℕ) (cal
 file-unread told name status calls (inl gone) = inl gone
 file-unread told name status calls (inr want) = inr (inr want)
 
-pub file-bad : (told : Option Contents) (name : List ℕ) (status : ℕ) → status ≡ 5 → IfSome told (λ files. HasNoSpelling files name)
-    → (calls : List Call) → IsSay (codes "monocle: certificates\n") calls → IsFileEnd told name status (Read name true ∷ calls)
-file-bad told name status five cause calls e = inr (inl (five, ap (λ (cs : List Call). Read name true ∷ cs) e, cause))
+pub file-bad : (told : Option Contents) (name : List ℕ) (offset : ℕ) (text : List ℕ) (status : ℕ) → status ≡ 5 → IfSome told (λ files. HasNoSpelling files name offset) → text ≡ bad_at (codes "monocle: certificates") offset
+    → (calls : List Call) → IsSay text calls → IsFileEnd told name status (Read name true ∷ calls)
+file-bad told name offset text status five cause is calls e = inr (inl (offset, (five, ap (λ (cs : List Call). Read name true ∷ cs) (e ∙ ap (λ (t : List ℕ). Say t ∷ []) is), cause)))
 
 both : (told : Option Contents) (P Q : Contents → Type 0) → IfSome told P → IfSome told Q → IfSome told (λ files. P files × Q files)
 both None P Q p q = p
@@ -94,15 +94,21 @@ pub certificates-end : (told : Option Contents) (source : Source) (name : List �
 certificates-end told (File table) name status gives calls (inl gone) = inr (inl (inl (gone.0, ap (λ (cs : List Call). Read table true ∷ cs) gone.1)))
 certificates-end told (File table) name status gives calls (inr (inl bad)) = inr (inl (inr (inl (
   bad.0,
-  ap (λ (cs : List Call). Read table true ∷ cs) bad.1,
-  both told (λ files. GivesSome files (File table)) (λ files. HasNoSpelling files name) gives bad.2,
+  (
+    bad.1.0,
+    ap (λ (cs : List Call). Read table true ∷ cs) bad.1.1,
+    both told (λ files. GivesSome files (File table)) (λ files. HasNoSpelling files name bad.0) gives bad.1.2,
+  ),
 ))))
 certificates-end told (File table) name status gives calls (inr (inr want)) = inr (inl (inr (inr want)))
 certificates-end told (Generate n seed) name status gives calls (inl gone) = inr (inl (inl gone))
 certificates-end told (Generate n seed) name status gives calls (inr (inl bad)) = inr (inl (inr (inl (
   bad.0,
-  bad.1,
-  both told (λ files. GivesSome files (Generate n seed)) (λ files. HasNoSpelling files name) gives bad.2,
+  (
+    bad.1.0,
+    bad.1.1,
+    both told (λ files. GivesSome files (Generate n seed)) (λ files. HasNoSpelling files name bad.0) gives bad.1.2,
+  ),
 ))))
 certificates-end told (Generate n seed) name status gives calls (inr (inr want)) = inr (inl (inr (inr want)))
 

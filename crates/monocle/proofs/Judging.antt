@@ -3,7 +3,8 @@ use Rattle.std.proofs.Common.{◌≡◌, ◌<◌, ℕ, List, Option, Some, None,
 use Rattle.mon_table.specs.declared.rule.Rule.{Rule}
 use Rattle.mon_shows.specs.Views.{Viewing}
 use Rattle.mon_certificate.specs.declared.certificate.Certificate.{Certificate}
-use Rattle.mon_certificate_file.specs.CertificateFile.{Spells}
+use Rattle.mon_certificate_file.specs.CertificateFile.{Spells, IsCertificateFile}
+use Rattle.mon_text.specs.BadLines.{IsFirstBadLine}
 use Rattle.mon_table_file.specs.TableFile.{IsTableFile}
 use Rattle.mon_plan.specs.Checking.{checked}
 use Rattle.mon_words.specs.declared.command.Source.{Source}
@@ -18,11 +19,11 @@ no-table None name text read content same none = content
 no-table (Some files) name text read content same none =
     (text, content, subst (λ bytes. (v : Viewing) (t : List Rule) → IsTableFile bytes v t → ⊥) same none)
 
-pub no-certificates : (told : Option Contents) (name text read : List ℕ) → IfSome told (λ files. files name ≡ Some text) → read ≡ text
-    → ((cs : List Certificate) → Spells read cs → ⊥) → IfSome told (λ files. HasNoSpelling files name)
-no-certificates None name text read content same none = content
-no-certificates (Some files) name text read content same none =
-    (text, content, subst (λ bytes. (cs : List Certificate) → Spells bytes cs → ⊥) same none)
+pub no-certificates : (told : Option Contents) (name text read : List ℕ) (offset : ℕ) → IfSome told (λ files. files name ≡ Some text) → read ≡ text
+    → ((cs : List Certificate) → Spells read cs → ⊥) → IsFirstBadLine IsCertificateFile read offset → IfSome told (λ files. HasNoSpelling files name offset)
+no-certificates None name text read offset content same none bad = content
+no-certificates (Some files) name text read offset content same none bad =
+    (text, content, subst (λ bytes. (cs : List Certificate) → Spells bytes cs → ⊥) same none, subst (λ bytes. IsFirstBadLine IsCertificateFile bytes offset) same bad)
 
 pub gives-some : (told : Option Contents) (source : Source) (v : Viewing) (t : List Rule) → IfSome told (λ files. Gives files source v t) → IfSome told (λ files. GivesSome files source)
 gives-some None source v t gives = gives

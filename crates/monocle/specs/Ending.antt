@@ -1,5 +1,5 @@
 -- How a run ends: at which status, behind which calls and with which text.
-use Rattle.std.specs.Prelude.{◌≡◌, ◌<◌, ℕ, true, false, List, [], ◌∷◌, ◌++◌, Option, IfSome, ◌⊎◌, codes}
+use Rattle.std.specs.Prelude.{◌≡◌, ◌<◌, ℕ, true, false, List, [], ◌∷◌, ◌++◌, Option, IfSome, ◌⊎◌, codes, decimal}
 use Rattle.mon_words.specs.declared.command.Command.{Command}
 use Rattle.mon_words.specs.declared.command.Command.TheVariants as command
 use Rattle.mon_words.specs.declared.command.Source.{Source}
@@ -14,6 +14,10 @@ use Rattle.monocle.specs.Planning.{Contents, GivesNone, GivesSome, HasNoSpelling
 -- a file of this name can't be read
 abbrev pub unread : List ℕ → List ℕ
 unread name = codes "monocle: cannot read " ++ (name ++ codes "\n")
+
+-- a file is bad from this byte on
+abbrev pub bad_at : List ℕ → ℕ → List ℕ
+bad_at what offset = what ++ (codes ": offset " ++ (decimal offset ++ codes "\n"))
 
 -- one text is said
 abbrev pub IsSay : List ℕ → List Call → Type 0
@@ -72,14 +76,14 @@ IsTraceEnd told settings trace status calls =
 abbrev pub IsFileEnd : Option Contents → List ℕ → ℕ → List Call → Type 0
 IsFileEnd told name status calls =
     IsUnread [] name status calls
-    ⊎ (IsBad (Read name true ∷ []) (codes "monocle: certificates\n") told (λ files. HasNoSpelling files name) status calls
+    ⊎ (((offset : ℕ) × IsBad (Read name true ∷ []) (bad_at (codes "monocle: certificates") offset) told (λ files. HasNoSpelling files name offset) status calls)
     ⊎ IsWant status calls)
 
 -- where a source gives a table and a file no certificates: the table is judged before the certificates are read
 abbrev pub IsCertificatesEnd : Option Contents → Source → List ℕ → ℕ → List Call → Type 0
 IsCertificatesEnd told source name status calls =
     IsUnread (reads_of source) name status calls
-    ⊎ (IsBad (reads_of source ++ Read name true ∷ []) (codes "monocle: certificates\n") told (λ files. GivesSome files source × HasNoSpelling files name) status calls
+    ⊎ (((offset : ℕ) × IsBad (reads_of source ++ Read name true ∷ []) (bad_at (codes "monocle: certificates") offset) told (λ files. GivesSome files source × HasNoSpelling files name offset) status calls)
     ⊎ IsWant status calls)
 
 -- of a command, by what the desk tells of its files

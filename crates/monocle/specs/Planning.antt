@@ -3,7 +3,8 @@ use Rattle.std.specs.Prelude.{◌≡◌, ℕ, Bool, true, false, List, ◌++◌,
 use Rattle.mon_table.specs.declared.rule.Rule.{Rule}
 use Rattle.mon_shows.specs.Views.{Viewing}
 use Rattle.mon_certificate.specs.declared.certificate.Certificate.{Certificate}
-use Rattle.mon_certificate_file.specs.CertificateFile.{Spells}
+use Rattle.mon_text.specs.BadLines.{IsFirstBadLine}
+use Rattle.mon_certificate_file.specs.CertificateFile.{Spells, IsCertificateFile}
 use Rattle.mon_table_file.specs.TableFile.{IsTableFile}
 use Rattle.mon_table_file.specs.Generator.{generated_view, generated}
 use Rattle.mon_plan.specs.declared.summary.Summary.{Summary}
@@ -65,9 +66,10 @@ status_of (Refused n) = 1
 abbrev pub IsSpelled : Contents → List ℕ → List Certificate → Type 0
 IsSpelled files name cs = (text : List ℕ) × (files name ≡ Some text) × Spells text cs
 
--- the file of this name has no certificates
-abbrev pub HasNoSpelling : Contents → List ℕ → Type 0
-HasNoSpelling files name = (text : List ℕ) × (files name ≡ Some text) × ((cs : List Certificate) → Spells text cs → ⊥)
+-- the file of this name has no certificates, and its first bad line begins at the offset
+abbrev pub HasNoSpelling : Contents → List ℕ → ℕ → Type 0
+HasNoSpelling files name offset =
+    (text : List ℕ) × (files name ≡ Some text) × ((cs : List Certificate) → Spells text cs → ⊥) × IsFirstBadLine IsCertificateFile text offset
 
 -- a source gives a table
 abbrev pub GivesSome : Contents → Source → Type 0

@@ -1,9 +1,10 @@
 //! `check`: whether certificates of a table are accepted.
 
-ghost use Rattle.std.specs.Prelude.{◌≡◌, ◌≢◌, ◌<◌, ◌≤◌, [], ◌∷◌, List, Err, Some, true, IfOk, IfSome, OnOk, IsErrOf, string_bytes};
+ghost use Rattle.std.specs.Prelude.{◌≡◌, ◌≢◌, ◌<◌, ◌≤◌, [], ◌∷◌, ℕ, List, Err, Some, true, IfOk, IfSome, OnOk, IsErrOf, string_bytes, codes};
 ghost use Rattle.std.specs.Result.{IfErr};
 ghost use Rattle.mon_certificate.specs.declared.certificate.Certificate.{Certificate};
-ghost use Rattle.mon_certificate_file.specs.CertificateFile.{Spells};
+ghost use Rattle.mon_certificate_file.specs.CertificateFile.{Spells, IsCertificateFile};
+ghost use Rattle.mon_text.specs.BadLines.{IsFirstBadLine};
 ghost use Rattle.mon_plan.specs.Checking.{checked};
 ghost use Rattle.mon_world.specs.Causes.{Rose};
 ghost use Rattle.mon_words.specs.declared.command.Command.{Command};
@@ -11,7 +12,7 @@ ghost use Rattle.monocle.specs.Planning.{HasNoSpelling, IsSpelled, checked_text,
 ghost use Rattle.monocle.specs.Running.{Checks};
 ghost use Rattle.mon_world.specs.declared.calls.Call.TheVariants.{Read};
 ghost use Rattle.monocle.specs.Calls.{Quiet, Called};
-ghost use Rattle.monocle.specs.Ending.{IsFileEnd, IsEndOf};
+ghost use Rattle.monocle.specs.Ending.{bad_at, IsFileEnd, IsEndOf};
 
 use crate::saying::{content_of, out_of_memory, put, refused};
 use crate::source::table_of;
@@ -54,16 +55,25 @@ fn judged(alloc: Global, v: &View, t: &Table, c: &Certificates) -> Result<(Strin
     Ok((checked_text(alloc, checked)?, status_of(checked)))
 }
 
+/// What is said of a certificate file that is bad from this byte on.
+fn bad_text(alloc: Global, offset: u64) -> Result<String, OutOfMemory>
+    ensures { IfOk result (λ text. string_bytes text ≡ bad_at (codes "monocle: certificates") offset) }
+{
+    let text = format!(in alloc; "monocle: certificates: offset {offset}\n")?;
+    Ok(text)
+}
+
 /// The certificates of a certificate file.
 fn certificates_in(alloc: Global, text: &[u8]) -> Result<Certificates, FileFault>
     ensures found { IfOk result (Spells text.now) }
-    ensures bad { result ≡ Err FileFault.Bad → (cs : List Certificate) → Spells text.now cs → ⊥ }
+    ensures bad { (offset : ℕ) → result ≡ Err (FileFault.Bad offset) → (cs : List Certificate) → Spells text.now cs → ⊥ }
+    ensures at { (offset : ℕ) → result ≡ Err (FileFault.Bad offset) → IsFirstBadLine IsCertificateFile text.now offset }
 {
     read_certificates(alloc, text)
 }
 
 /// The certificates of the file of this name. Where there are none, says why, and gives the status: 3 where the file can't
-/// be read, 5 where it isn't in its form, 7 for want of memory.
+/// be read, 5 where it isn't in its form and from which byte on, 7 for want of memory.
 fn certificates_of<D: Desk>(alloc: Global, name: &str, desk: &mut D) -> Result<Certificates, u8>
     ensures found { IfOk result (λ cs. IfSome (D.files desk.old) (λ files. IsSpelled files name.now cs)) }
     ensures quiet { OnOk result (Quiet (Read name.now true ∷ []) (D.said desk.old) (D.said desk.new) (D.calls desk.old) (D.calls desk.new)) }
@@ -77,7 +87,10 @@ fn certificates_of<D: Desk>(alloc: Global, name: &str, desk: &mut D) -> Result<C
     let text = content_of(alloc, name, desk)?;
     match certificates_in(alloc, &text) {
         Ok(read) => Ok(read),
-        Err(FileFault::Bad) => Err(refused(alloc, desk, 5, b"monocle: certificates\n")),
+        Err(FileFault::Bad { offset }) => match bad_text(alloc, offset) {
+            Ok(said) => Err(refused(alloc, desk, 5, said.as_bytes())),
+            Err(OutOfMemory) => Err(out_of_memory(alloc, desk)),
+        },
         Err(FileFault::OutOfMemory) => Err(out_of_memory(alloc, desk)),
     }
 }

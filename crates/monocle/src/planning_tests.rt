@@ -222,7 +222,7 @@ const OUT_OF_FORM: [Row; 6] = [
         Failing::Nothing,
         5,
         "",
-        "monocle: certificates\n",
+        "monocle: certificates: offset 31\n",
     ),
     (
         CHECK,

@@ -13,7 +13,7 @@ ghost use Rattle.monocle.specs.Calls.{Quiet, Called};
 ghost use Rattle.monocle.specs.Ending.{IsSourceEnd, reads_of};
 
 use crate::saying::{content_of, out_of_memory, refused};
-use mon_plan::{FileFault, generate, read_table};
+use mon_plan::{TextFault, generate, read_table};
 use mon_shows::View;
 use mon_table::Table;
 use mon_words::Source;
@@ -21,9 +21,9 @@ use mon_world::Desk;
 use std::alloc::Global;
 
 /// The view and the table of a table file.
-fn table_in(alloc: Global, text: &[u8]) -> Result<(View, Table), FileFault>
+fn table_in(alloc: Global, text: &[u8]) -> Result<(View, Table), TextFault>
     ensures found { IfOk result (λ x. IsTableFile text.now x.0 x.1) }
-    ensures bad { result ≡ Err FileFault.Bad → (v : Viewing) (t : List Rule) → IsTableFile text.now v t → ⊥ }
+    ensures bad { result ≡ Err TextFault.Bad → (v : Viewing) (t : List Rule) → IsTableFile text.now v t → ⊥ }
 {
     read_table(alloc, text)
 }
@@ -43,8 +43,8 @@ fn table_of_file<D: Desk>(alloc: Global, name: &str, desk: &mut D) -> Result<(Vi
     let text = content_of(alloc, name, desk)?;
     match table_in(alloc, &text) {
         Ok(found) => Ok(found),
-        Err(FileFault::Bad) => Err(refused(alloc, desk, 5, b"monocle: table\n")),
-        Err(FileFault::OutOfMemory) => Err(out_of_memory(alloc, desk)),
+        Err(TextFault::Bad) => Err(refused(alloc, desk, 5, b"monocle: table\n")),
+        Err(TextFault::OutOfMemory) => Err(out_of_memory(alloc, desk)),
     }
 }
 

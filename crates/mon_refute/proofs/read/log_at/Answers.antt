@@ -1,11 +1,11 @@
-use Rattle.std.proofs.lemmas.Result.{err_from_is_err_and}
-use Rattle.mon_refute.proofs.LineTexts.{bad_lines, log_once}
+use Rattle.mon_refute.proofs.Leaving.{count_bad, log_only, log_stops}
 use Rattle.mon_refute.proofs.read.log_at.Goals as goal
 
-pub returns-in_err-log-clause-only : goal.returns-in_err-log-clause-only
-returns-in_err-log-clause-only c =
-    let p = err_from_is_err_and c.from_residual.result c.from_residual.ensures.1 in
-    rw (p.1, p.2) (bad_lines c.args.bytes.now c.in-Some.rest.now c.in-Some.count c.in_err-log.field-0.0 c.in-Some.ensures c.in_err-log.ensures)
+pub returns-in_default-clause-stops : goal.returns-in_default-clause-stops
+returns-in_default-clause-stops c = count_bad c.args.bytes.now c.in_default.ensures
 
 pub returns-clause-only : goal.returns-clause-only
-returns-clause-only c log rest a = log_once c.args.bytes.now c.in-Some.rest.now c.in_ok-log.rest.now c.in-Some.count c.in_ok-log.log log rest c.in-Some.ensures c.in_ok-log.ensures a
+returns-clause-only c = log_only c.args.bytes.now c.in-Some.rest.now c.in-Some.count c.lines_at.result c.in-Some.ensures c.lines_at.ensures
+
+pub returns-clause-stops : goal.returns-clause-stops
+returns-clause-stops c = log_stops c.args.bytes.now c.in-Some.rest.now c.in-Some.count c.lines_at.result c.in-Some.ensures c.lines_at.ensures
