@@ -3,3 +3,4 @@ mod Parts
 mod Members
 mod Changing
 mod Righting
+pub mod Adding

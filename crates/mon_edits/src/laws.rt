@@ -1,6 +1,7 @@
-//! What the edits of a message make of a table, whatever the table. These functions do nothing: each is its law.
+//! What the edits of a message make of a table, and how they go on, whatever the table. These functions do nothing: each is
+//! its law.
 
-ghost use Rattle.std.specs.Prelude.{◌≡◌, ◌↔◌, ◌⊎◌, ◌||◌, List, IsTrue};
+ghost use Rattle.std.specs.Prelude.{◌≡◌, ◌↔◌, ◌⊎◌, ◌||◌, ◌∷◌, [], ℕ, List, IsTrue, if◌then◌else◌};
 ghost use Rattle.std.specs.List.{AllByRecursion};
 ghost use Rattle.mon_list.specs.Has.{Has};
 ghost use Rattle.mon_header.specs.Matching.{IsNormal};
@@ -8,9 +9,10 @@ ghost use Rattle.mon_table.specs.declared.rule.Rule.{Rule};
 ghost use Rattle.mon_table.specs.Tables.{InOrder, IsTable};
 ghost use Rattle.mon_table.specs.Edits.{after_all};
 ghost use Rattle.of_msgs.specs.declared.flow_mod.FlowMod.{FlowMod};
-ghost use Rattle.mon_edits.specs.Naming.{is_add, is_deletion, named, adds_entry};
+ghost use Rattle.of_msgs.specs.FlowMods.{IsFlowMod, IsFlowModFrame, with_flags};
+ghost use Rattle.mon_edits.specs.Naming.{has_timeout, is_add, is_deletion, named, adds_entry};
 ghost use Rattle.mon_edits.specs.Edits.{rule_in, edits_of};
-ghost use Rattle.mon_edits.specs.Frames.{is_cut};
+ghost use Rattle.mon_edits.specs.Frames.{is_cut, with_removal, frames_of};
 ghost use Rattle.mon_edits.specs.Laws.{AllRight, IsOther, IsTaken, IsChanged, changes_entries};
 
 /// A message takes entries out exactly where its command is a deletion.
@@ -38,4 +40,11 @@ pub fn a_modification_changes_what_it_names()
 /// After a deletion a table has what it had, but for the entries that the message names with its out_port.
 pub fn a_deletion_leaves_what_it_does_not_take()
     ensures { (t : List Rule) (m : FlowMod) (r : Rule) → InOrder t → IsTrue (is_deletion m.command) → Has (after_all t (edits_of t m)) r ↔ (Has t r × (IsTaken t m r → ⊥)) }
+{}
+
+/// An ADD goes to the switch as the frame in which it came, byte for byte, but that one with a timeout bears SEND_FLOW_REM
+/// besides its flags.
+pub fn an_add_goes_on_as_it_came()
+    ensures { (t : List Rule) (m : FlowMod) (bytes : List ℕ) → IsFlowModFrame bytes → IsFlowMod bytes m → IsTrue (is_add m.command)
+        → frames_of m (edits_of t m) bytes ≡ with_flags (if has_timeout m then with_removal m.flags else m.flags) bytes ∷ [] }
 {}

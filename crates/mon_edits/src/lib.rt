@@ -22,7 +22,8 @@ mod tests;
 pub use frame::{frame_of, frames_of};
 pub use laws::{
     a_deletion_leaves_what_it_does_not_take, a_modification_changes_what_it_names,
-    an_add_puts_its_rule, edits_say_what_stood_there, edits_suit_the_command,
+    an_add_goes_on_as_it_came, an_add_puts_its_rule, edits_say_what_stood_there,
+    edits_suit_the_command,
 };
 pub use mon_list::OutOfMemory;
 pub use mon_table::Edit;
