@@ -1,5 +1,5 @@
 -- What one table shows and another does not.
-use Rattle.std.proofs.Common.{◌≡◌, ℕ, Bool, true, false, not, ◌&&◌, ◌||◌, List, [], ◌∷◌, Some, None, refl, sym, ap, ap₂, subst, ◌∙◌, inl, inr, ⊎_elim}
+use Rattle.std.proofs.Common.{◌≡◌, ℕ, Bool, true, false, not, cond, ◌&&◌, ◌||◌, List, [], ◌∷◌, Some, None, refl, sym, ap, ap₂, subst, ◌∙◌, inl, inr, ⊎_elim}
 use Rattle.std.specs.Prelude.{nat_le}
 use Rattle.std.specs.List.{list_any}
 use Rattle.std.proofs.lemmas.Bool.{and_parts, and_from, or_left, or_right, or_cases, cases_Bool, not_from_false, false≢true}
@@ -11,13 +11,16 @@ use Rattle.mon_table.specs.declared.rule.Rule.{Rule}
 use Rattle.mon_table.specs.declared.edit.Edit.TheVariants as edit
 use Rattle.mon_table.specs.Edits.{after}
 use Rattle.mon_table.specs.Rules.{Identity, identity_of, rank, same_identity}
-use Rattle.mon_table.specs.Tables.{rule_of}
+use Rattle.mon_table.specs.Tables.{InOrder, rule_of}
 use Rattle.mon_table.specs.Winners.{is_highest, wins, winners, may_miss, left}
 use Rattle.mon_table.proofs.Listing.{has-list_all, list_all-has}
+use Rattle.mon_table.proofs.Keeping.{order-filter}
 use Rattle.mon_table.proofs.Members.{has-filter, filter-has, after-members, members-after}
 use Rattle.mon_table.proofs.Undoing.{none-there}
+use Rattle.mon_table.proofs.Vanishing.{winners-left, misses-left, no-winner}
 use Rattle.mon_outcome.specs.declared.emission.Emission.{Emission}
 use Rattle.mon_outcome.specs.Emitting.{Emitted, same_emission, any_unknown, emissions, is_among, is_among_whole, must, may}
+use Rattle.mon_shows.specs.declared.target.Target.{Target}
 use Rattle.mon_shows.specs.declared.target.Target.TheVariants.{Put, Cut}
 use Rattle.mon_shows.specs.Separation.{made_unsure, with_update, without_update, is_miss, is_certain, must_show, may_show, separates}
 use Rattle.mon_shows.specs.Under.{HasLike, HasSure, Under}
@@ -133,6 +136,51 @@ left-under t goes h = record {
   like = λ r m i. record { like = r; has = (has-filter (λ s. not (s.unsure && goes s)) t r i).0; identity = refl; actions = refl };
   sure = λ s m sure j. record { sure = s; has = filter-has (λ r. not (r.unsure && goes r)) t s j (kept s.unsure (goes s) sure); is_sure = sure; identity = refl };
 }
+
+-- ---- whichever unsure rules are gone
+
+missed-not : (misses : Bool) → misses ≡ true → not misses ≡ true → false ≡ true
+missed-not true m n = n
+missed-not false m n = m
+
+-- one winner, where the packet cannot miss, is not gone
+certain-left : (ws : List Rule) (misses : Bool) (goes : Rule → Bool) (h : Header) (e : Emission) → (left goes ws ≡ [] → misses ≡ true)
+    → is_certain ws misses h e ≡ true → is_certain (left goes ws) misses h e ≡ true
+certain-left [] misses goes h e none y = y
+certain-left (r ∷ []) misses goes h e none y =
+    elim (r.unsure && goes r) as (λ b. (cond (not b) (r ∷ []) [] ≡ [] → misses ≡ true) → is_certain (cond (not b) (r ∷ []) []) misses h e ≡ true) [
+      | true ↦ λ f. absurd (false≢true (missed-not misses (f refl) (and_parts (not misses) _ y).0))
+      | false ↦ λ f. y
+    ] none
+certain-left (r ∷ s ∷ rest) misses goes h e none y = absurd (false≢true y)
+
+must-left : (t : List Rule) (goes : Rule → Bool) (h : Header) (e : Emission) → InOrder t → must_show t h e ≡ true → must_show (left goes t) h e ≡ true
+must-left t goes h e o y =
+    let none : left goes (winners t h) ≡ [] → may_miss t h ≡ true =
+    λ (z : left goes (winners t h) ≡ []). sym (misses-left t goes h)
+    ∙ no-winner (left goes t) h (order-filter (λ r. not (r.unsure && goes r)) t o) (winners-left t goes h ∙ z) in
+    ap₂ (λ (ws : List Rule) (b : Bool). is_certain ws b h e) (winners-left t goes h) (misses-left t goes h)
+    ∙ certain-left (winners t h) (may_miss t h) goes h e none y
+
+pub with-shown : (v : Viewing) (t : List Rule) (x : Target) (goes : Rule → Bool) (h : Header) (e : Emission) → InOrder (with_update t x)
+    → separates v t x h e ≡ true → must_show (left goes (with_update t x)) h e ≡ true
+unfolding separates
+with-shown v t x goes h e o y =
+    must-left (with_update t x) goes h e o (and_parts (must_show (with_update t x) h e) _ (and_parts (craftable v h) _ y).1).0
+
+not-shown : (p q : Bool) → (p ≡ true → q ≡ true) → not q ≡ true → p ≡ false
+not-shown false q f n = refl
+not-shown true true f n = absurd (false≢true n)
+not-shown true false f n = absurd (false≢true (f refl))
+
+pub without-hidden : (v : Viewing) (t : List Rule) (x : Target) (goes : Rule → Bool) (h : Header) (e : Emission)
+    → separates v t x h e ≡ true → may_show (left goes (without_update t x)) h e ≡ false
+unfolding separates
+without-hidden v t x goes h e y =
+    let rest = (and_parts (must_show (with_update t x) h e) _ (and_parts (craftable v h) _ y).1).1 in
+    not-shown (may_show (left goes (without_update t x)) h e) (may_show (without_update t x) h e)
+    (under-shows h (left goes (without_update t x)) (without_update t x) e (left-under (without_update t x) goes h))
+    (and_parts (caught v e) _ rest).1
 
 -- where the one table is under the other nothing separates them
 pub never : (c s k p : Bool) → (s ≡ true → p ≡ true) → (c && (s && (k && not p))) ≡ false

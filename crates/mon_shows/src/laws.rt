@@ -8,7 +8,7 @@ ghost use Rattle.mon_table.specs.declared.rule.Rule.{Rule};
 ghost use Rattle.mon_table.specs.declared.edit.Edit.{Edit};
 ghost use Rattle.mon_table.specs.Edits.{undone};
 ghost use Rattle.mon_table.specs.Rules.{identity_of};
-ghost use Rattle.mon_table.specs.Tables.{rule_of};
+ghost use Rattle.mon_table.specs.Tables.{InOrder, rule_of};
 ghost use Rattle.mon_table.specs.Winners.{left};
 ghost use Rattle.mon_outcome.specs.declared.emission.Emission.{Emission};
 ghost use Rattle.mon_outcome.specs.Emitting.{emissions, is_among, shown};
@@ -16,7 +16,7 @@ ghost use Rattle.mon_shows.specs.declared.seen.Seen.{Seen};
 ghost use Rattle.mon_shows.specs.declared.target.Target.{Target};
 ghost use Rattle.mon_shows.specs.Links.{FarEndsDiffer, LeadAway};
 ghost use Rattle.mon_shows.specs.Views.{Viewing, observed};
-ghost use Rattle.mon_shows.specs.Separation.{without_update, must_show, may_show, separates};
+ghost use Rattle.mon_shows.specs.Separation.{with_update, without_update, must_show, may_show, separates};
 ghost use Rattle.mon_shows.specs.Under.{Under};
 
 /// In a view whose links have different far ends, none of them at the view's own switch, two emissions that came in at
@@ -44,6 +44,15 @@ pub fn what_is_under_shows_no_more()
     ensures shown { (h : Header) (t u : List Rule) (e : Emission) → Under h t u → IsTrue (may_show t h e) → IsTrue (may_show u h e) }
     ensures gone { (t : List Rule) (goes : Rule → Bool) (h : Header) → Under h (left goes t) t }
     ensures must { (t : List Rule) (h : Header) (e : Emission) → IsTrue (must_show t h e) → IsTrue (may_show t h e) }
+{}
+
+/// What separates does so whichever unsure rules are gone: what is left of the table with the update must show it, and
+/// what is left of the one without cannot.
+pub fn what_separates_does_whichever_rules_are_gone()
+    ensures with_it { (v : Viewing) (t : List Rule) (x : Target) (goes : Rule → Bool) (h : Header) (e : Emission)
+        → InOrder (with_update t x) → IsTrue (separates v t x h e) → IsTrue (must_show (left goes (with_update t x)) h e) }
+    ensures without_it { (v : Viewing) (t : List Rule) (x : Target) (goes : Rule → Bool) (h : Header) (e : Emission)
+        → IsTrue (separates v t x h e) → may_show (left goes (without_update t x)) h e ≡ false }
 {}
 
 /// The cut of an unsure entry is never shown: it looks as if its timeout had taken it.
