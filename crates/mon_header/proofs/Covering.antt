@@ -4,10 +4,10 @@ use Rattle.std.specs.Prelude.{◌==◌, nat_le, ◌&&◌}
 use Rattle.std.proofs.lemmas.Bool.{eqb-true, eq-eqb}
 use Rattle.std.proofs.lemmas.Bool.Decides.{leb_tells, nat_tests}
 use Rattle.mon_header.specs.declared.header.Header.{Header}
-use Rattle.mon_header.specs.Matching.{Matching, IsNormal, agree_above, takes, covers_field, covers_address, each_field, matches, covers}
+use Rattle.mon_header.specs.Matching.{Matching, IsNormal, agree_above, takes, covers_field, covers_address, matches, covers}
 use Rattle.mon_header.specs.Laws.{TakesAllOf}
 use Rattle.mon_header.proofs.Agreeing.{agree-up, beside, beside-apart, beside-agrees, beside-below}
-use Rattle.mon_header.proofs.Fields.{Fields, each, drawn, drawn-is, drawn-below, tested, tests, left, right}
+use Rattle.mon_header.proofs.Fields.{each, drawn, drawn-is, drawn-below, pairs, left, right}
 
 -- a value that the narrow match takes, and another than the wide one's where the narrow one does not compare the field
 tell : Bool → ℕ → ℕ → ℕ
@@ -79,40 +79,39 @@ address-takes wide narrow x y z p q =
 telling : Matching → Matching → Header
 telling = drawn (λ v w. tell w) tell_address
 
-covered : (w n : Matching) (h : Header)
-    → (covers w n ≡ true) ↔ Fields (λ v w x y z. covers_field v w x y ≡ true) (λ v w x y z. covers_address v w x y ≡ true) w n h
-unfolding covers each_field tested
-covered w n h = tests (λ v w x y z. covers_field v w x y) (λ v w x y z. covers_address v w x y) w n h
-
 to-all : (w n : Matching) → covers w n ≡ true → TakesAllOf w n
+unfolding covers
 to-all w n e = λ (h : Header) range m.
-    (left w n h).1 (each _ _ _ _ _ _ w n h covers-takes address-takes ((covered w n h).0 e) ((right w n h).0 m))
+    (left w n h).1 (each _ _ _ _ _ _ w n h covers-takes address-takes ((pairs covers_field covers_address w n h).0 e) ((right w n h).0 m))
 
 telling-narrow : (w n : Matching) → matches n (telling w n) ≡ true
 unfolding telling
 telling-narrow w n =
     let is = drawn-is (λ v w. tell w) tell_address w n in
     (right w n (telling w n)).1 (each _ _ _ _ _ _ w n (telling w n)
-      (λ v w x y z p q. rw p (tell-narrow w x y))
-      (λ v w x y z p q. rw p (address-narrow v w x y))
-      is is)
+    (λ v w x y z p q. rw p (tell-narrow w x y))
+    (λ v w x y z p q. rw p (address-narrow v w x y))
+    is is)
 
 telling-covers : (w n : Matching) → matches w (telling w n) ≡ true → covers w n ≡ true
-unfolding telling
+unfolding telling covers
 telling-covers w n t =
     let is = drawn-is (λ v w. tell w) tell_address w n in
-    (covered w n (telling w n)).1 (each _ _ _ _ _ _ w n (telling w n)
-      (λ v w x y z p q. tell-covers v w x y (subst (λ (n : ℕ). takes v x n ≡ true) p q))
-      (λ v w x y z p q. address-covers v w x y (subst (λ (n : ℕ). agree_above v x n ≡ true) p q))
-      is ((left w n (telling w n)).0 t))
+    (pairs covers_field covers_address w n (telling w n)).1 (each _ _ _ _ _ _ w n (telling w n)
+    (λ v w x y z p q. tell-covers v w x y (subst (λ (n : ℕ). takes v x n ≡ true) p q))
+    (λ v w x y z p q. address-covers v w x y (subst (λ (n : ℕ). agree_above v x n ≡ true) p q))
+    is ((left w n (telling w n)).0 t))
 
 from-all : (w n : Matching) → IsNormal w → IsNormal n → TakesAllOf w n → covers w n ≡ true
 unfolding telling
 from-all w n p q all =
     let below = drawn-below (λ v w. tell w) tell_address w n
-      (λ v w x y n a b c. tell-below w x y n b c)
-      (λ v w x y a b c. address-below v w x y a c) p q in
+    (λ v w x y n a b c. tell-below w x y n b c)
+    (λ v w x y a b c. address-below v w x y a c) p q in
     telling-covers w n (all (telling w n) below (telling-narrow w n))
 
 pub cover-law : (w n : Matching) → IsNormal w → IsNormal n → (covers w n ≡ true) ↔ TakesAllOf w n
 cover-law w n p q = (to-all w n, from-all w n p q)
+
+-- the law
+pub ruleset covering = (cover-law)

@@ -2,8 +2,8 @@
 use Rattle.std.proofs.Common.{◌≡◌, ℕ, ◌^◌, ◌<◌, ◌≤◌, ◌↔◌, Bool, true, refl, arith}
 use Rattle.std.specs.Prelude.{◌&&◌}
 use Rattle.mon_header.specs.declared.header.Header.{Header}
-use Rattle.mon_header.specs.Matching.{Matching, InRange, IsNormal, agree_above, takes, matches}
-use Rattle.mon_header.proofs.Twelve.{split, join}
+use Rattle.mon_header.specs.Matching.{Matching, InRange, IsNormal, agree_above, takes, each_field, matches}
+use Rattle.mon_header.proofs.Twelve.{Twelve, split, join}
 
 -- what is said of a plain field: whether each match leaves it out, and its number in each of them and in the header
 abbrev pub Plain : Type 1
@@ -14,18 +14,20 @@ abbrev pub Address : Type 1
 Address = ℕ → ℕ → ℕ → ℕ → ℕ → Type 0
 
 pub record Fields (P : Plain) (A : Address) (a b : Matching) (h : Header) : Type 0 where
-  pub in_port : P a.wild.in_port b.wild.in_port a.fields.in_port b.fields.in_port h.in_port
-  pub dl_src : P a.wild.dl_src b.wild.dl_src a.fields.dl_src b.fields.dl_src h.dl_src
-  pub dl_dst : P a.wild.dl_dst b.wild.dl_dst a.fields.dl_dst b.fields.dl_dst h.dl_dst
-  pub dl_vlan : P a.wild.dl_vlan b.wild.dl_vlan a.fields.dl_vlan b.fields.dl_vlan h.dl_vlan
-  pub dl_vlan_pcp : P a.wild.dl_vlan_pcp b.wild.dl_vlan_pcp a.fields.dl_vlan_pcp b.fields.dl_vlan_pcp h.dl_vlan_pcp
-  pub dl_type : P a.wild.dl_type b.wild.dl_type a.fields.dl_type b.fields.dl_type h.dl_type
-  pub nw_tos : P a.wild.nw_tos b.wild.nw_tos a.fields.nw_tos b.fields.nw_tos h.nw_tos
-  pub nw_proto : P a.wild.nw_proto b.wild.nw_proto a.fields.nw_proto b.fields.nw_proto h.nw_proto
-  pub nw_src : A a.wild.nw_src b.wild.nw_src a.fields.nw_src b.fields.nw_src h.nw_src
-  pub nw_dst : A a.wild.nw_dst b.wild.nw_dst a.fields.nw_dst b.fields.nw_dst h.nw_dst
-  pub tp_src : P a.wild.tp_src b.wild.tp_src a.fields.tp_src b.fields.tp_src h.tp_src
-  pub tp_dst : P a.wild.tp_dst b.wild.tp_dst a.fields.tp_dst b.fields.tp_dst h.tp_dst
+  pub fields :
+      Twelve
+      (P a.wild.in_port b.wild.in_port a.fields.in_port b.fields.in_port h.in_port)
+      (P a.wild.dl_src b.wild.dl_src a.fields.dl_src b.fields.dl_src h.dl_src)
+      (P a.wild.dl_dst b.wild.dl_dst a.fields.dl_dst b.fields.dl_dst h.dl_dst)
+      (P a.wild.dl_vlan b.wild.dl_vlan a.fields.dl_vlan b.fields.dl_vlan h.dl_vlan)
+      (P a.wild.dl_vlan_pcp b.wild.dl_vlan_pcp a.fields.dl_vlan_pcp b.fields.dl_vlan_pcp h.dl_vlan_pcp)
+      (P a.wild.dl_type b.wild.dl_type a.fields.dl_type b.fields.dl_type h.dl_type)
+      (P a.wild.nw_tos b.wild.nw_tos a.fields.nw_tos b.fields.nw_tos h.nw_tos)
+      (P a.wild.nw_proto b.wild.nw_proto a.fields.nw_proto b.fields.nw_proto h.nw_proto)
+      (A a.wild.nw_src b.wild.nw_src a.fields.nw_src b.fields.nw_src h.nw_src)
+      (A a.wild.nw_dst b.wild.nw_dst a.fields.nw_dst b.fields.nw_dst h.nw_dst)
+      (P a.wild.tp_src b.wild.tp_src a.fields.tp_src b.fields.tp_src h.tp_src)
+      (P a.wild.tp_dst b.wild.tp_dst a.fields.tp_dst b.fields.tp_dst h.tp_dst)
 
 -- what follows from two things field by field
 pub each : (P Q R : Plain) (A B C : Address) (a b : Matching) (h : Header)
@@ -33,18 +35,20 @@ pub each : (P Q R : Plain) (A B C : Address) (a b : Matching) (h : Header)
     → ((v w x y z : ℕ) → A v w x y z → B v w x y z → C v w x y z)
     → Fields P A a b h → Fields Q B a b h → Fields R C a b h
 each P Q R A B C a b h f g p q = record {
-  in_port = f _ _ _ _ _ p.in_port q.in_port;
-  dl_src = f _ _ _ _ _ p.dl_src q.dl_src;
-  dl_dst = f _ _ _ _ _ p.dl_dst q.dl_dst;
-  dl_vlan = f _ _ _ _ _ p.dl_vlan q.dl_vlan;
-  dl_vlan_pcp = f _ _ _ _ _ p.dl_vlan_pcp q.dl_vlan_pcp;
-  dl_type = f _ _ _ _ _ p.dl_type q.dl_type;
-  nw_tos = f _ _ _ _ _ p.nw_tos q.nw_tos;
-  nw_proto = f _ _ _ _ _ p.nw_proto q.nw_proto;
-  nw_src = g _ _ _ _ _ p.nw_src q.nw_src;
-  nw_dst = g _ _ _ _ _ p.nw_dst q.nw_dst;
-  tp_src = f _ _ _ _ _ p.tp_src q.tp_src;
-  tp_dst = f _ _ _ _ _ p.tp_dst q.tp_dst;
+  fields = record {
+    in_port = f _ _ _ _ _ p.fields.in_port q.fields.in_port;
+    dl_src = f _ _ _ _ _ p.fields.dl_src q.fields.dl_src;
+    dl_dst = f _ _ _ _ _ p.fields.dl_dst q.fields.dl_dst;
+    dl_vlan = f _ _ _ _ _ p.fields.dl_vlan q.fields.dl_vlan;
+    dl_vlan_pcp = f _ _ _ _ _ p.fields.dl_vlan_pcp q.fields.dl_vlan_pcp;
+    dl_type = f _ _ _ _ _ p.fields.dl_type q.fields.dl_type;
+    nw_tos = f _ _ _ _ _ p.fields.nw_tos q.fields.nw_tos;
+    nw_proto = f _ _ _ _ _ p.fields.nw_proto q.fields.nw_proto;
+    nw_src = g _ _ _ _ _ p.fields.nw_src q.fields.nw_src;
+    nw_dst = g _ _ _ _ _ p.fields.nw_dst q.fields.nw_dst;
+    tp_src = f _ _ _ _ _ p.fields.tp_src q.fields.tp_src;
+    tp_dst = f _ _ _ _ _ p.fields.tp_dst q.fields.tp_dst;
+  };
 }
 
 -- the header whose fields two functions draw from two matches
@@ -68,18 +72,20 @@ pub drawn-is : (f : Bool → Bool → ℕ → ℕ → ℕ) (g : ℕ → ℕ → 
     → Fields (λ v w x y z. z ≡ f v w x y) (λ v w x y z. z ≡ g v w x y) a b (drawn f g a b)
 unfolding drawn
 drawn-is f g a b = record {
-  in_port = refl;
-  dl_src = refl;
-  dl_dst = refl;
-  dl_vlan = refl;
-  dl_vlan_pcp = refl;
-  dl_type = refl;
-  nw_tos = refl;
-  nw_proto = refl;
-  nw_src = refl;
-  nw_dst = refl;
-  tp_src = refl;
-  tp_dst = refl;
+  fields = record {
+    in_port = refl;
+    dl_src = refl;
+    dl_dst = refl;
+    dl_vlan = refl;
+    dl_vlan_pcp = refl;
+    dl_type = refl;
+    nw_tos = refl;
+    nw_proto = refl;
+    nw_src = refl;
+    nw_dst = refl;
+    tp_src = refl;
+    tp_dst = refl;
+  };
 }
 
 pub drawn-below : (f : Bool → Bool → ℕ → ℕ → ℕ) (g : ℕ → ℕ → ℕ → ℕ → ℕ) (a b : Matching)
@@ -121,36 +127,13 @@ tested f g a b h =
 pub tests : (f : Bool → Bool → ℕ → ℕ → ℕ → Bool) (g : ℕ → ℕ → ℕ → ℕ → ℕ → Bool) (a b : Matching) (h : Header)
     → (tested f g a b h ≡ true) ↔ Fields (λ v w x y z. f v w x y z ≡ true) (λ v w x y z. g v w x y z ≡ true) a b h
 unfolding tested
-tests f g a b h = (
-  λ e. let t = split _ _ _ _ _ _ _ _ _ _ _ _ e in record {
-    in_port = t.in_port;
-    dl_src = t.dl_src;
-    dl_dst = t.dl_dst;
-    dl_vlan = t.dl_vlan;
-    dl_vlan_pcp = t.dl_vlan_pcp;
-    dl_type = t.dl_type;
-    nw_tos = t.nw_tos;
-    nw_proto = t.nw_proto;
-    nw_src = t.nw_src;
-    nw_dst = t.nw_dst;
-    tp_src = t.tp_src;
-    tp_dst = t.tp_dst;
-  },
-  λ t. join _ _ _ _ _ _ _ _ _ _ _ _ (record {
-    in_port = t.in_port;
-    dl_src = t.dl_src;
-    dl_dst = t.dl_dst;
-    dl_vlan = t.dl_vlan;
-    dl_vlan_pcp = t.dl_vlan_pcp;
-    dl_type = t.dl_type;
-    nw_tos = t.nw_tos;
-    nw_proto = t.nw_proto;
-    nw_src = t.nw_src;
-    nw_dst = t.nw_dst;
-    tp_src = t.tp_src;
-    tp_dst = t.tp_dst;
-  }),
-)
+tests f g a b h = (λ e. record { fields = split _ _ _ _ _ _ _ _ _ _ _ _ e }, λ t. join _ _ _ _ _ _ _ _ _ _ _ _ t.fields)
+
+-- a test of each field of two matches, whatever the header
+pub pairs : (f : Bool → Bool → ℕ → ℕ → Bool) (g : ℕ → ℕ → ℕ → ℕ → Bool) (a b : Matching) (h : Header)
+    → (each_field f g a b ≡ true) ↔ Fields (λ v w x y z. f v w x y ≡ true) (λ v w x y z. g v w x y ≡ true) a b h
+unfolding each_field tested
+pairs f g a b h = tests (λ v w x y z. f v w x y) (λ v w x y z. g v w x y) a b h
 
 -- the first match takes the header
 pub left : (a b : Matching) (h : Header)

@@ -4,10 +4,10 @@ use Rattle.std.specs.Prelude.{nat_le, max}
 use Rattle.std.proofs.lemmas.Bool.{eqb-true, eq-eqb}
 use Rattle.std.proofs.lemmas.Bool.Decides.{leb_tells}
 use Rattle.mon_header.specs.declared.header.Header.{Header}
-use Rattle.mon_header.specs.Matching.{Matching, IsNormal, agree_above, takes, overlaps_field, overlaps_address, each_field, matches, overlaps}
+use Rattle.mon_header.specs.Matching.{Matching, IsNormal, agree_above, takes, overlaps_field, overlaps_address, matches, overlaps}
 use Rattle.mon_header.specs.Laws.{ShareHeader}
 use Rattle.mon_header.proofs.Agreeing.{agree-up}
-use Rattle.mon_header.proofs.Fields.{Fields, each, drawn, drawn-is, drawn-below, tested, tests, left, right}
+use Rattle.mon_header.proofs.Fields.{each, drawn, drawn-is, drawn-below, pairs, left, right}
 
 -- the value that both take of a plain field: the one that is compared
 pick : Bool → ℕ → ℕ → ℕ
@@ -73,33 +73,31 @@ address-both a b x y z p q =
 shared : Matching → Matching → Header
 shared = drawn (λ v w. pick v) pick_address
 
-overlapped : (a b : Matching) (h : Header)
-    → (overlaps a b ≡ true) ↔ Fields (λ v w x y z. overlaps_field v w x y ≡ true) (λ v w x y z. overlaps_address v w x y ≡ true) a b h
-unfolding overlaps each_field tested
-overlapped a b h = tests (λ v w x y z. overlaps_field v w x y) (λ v w x y z. overlaps_address v w x y) a b h
-
 to-shared : (a b : Matching) → IsNormal a → IsNormal b → overlaps a b ≡ true → ShareHeader a b
-unfolding shared
+unfolding shared overlaps
 to-shared a b p q e =
     let is = drawn-is (λ v w. pick v) pick_address a b in
-    let both = (overlapped a b (shared a b)).0 e in
-    (
+    let both = (pairs overlaps_field overlaps_address a b (shared a b)).0 e in (
       shared a b,
       drawn-below (λ v w. pick v) pick_address a b (λ v w x y n c d e. pick-below v x y n c d) (λ v w x y c d e. address-below v w x y (2 ^ 32) d e) p q,
       (left a b (shared a b)).1 (each _ _ _ _ _ _ a b (shared a b)
-        (λ v w x y z i o. rw i (pick-left v w x y))
-        (λ v w x y z i o. rw i (address-left v w x y o))
-        is both),
+          (λ v w x y z i o. rw i (pick-left v w x y))
+          (λ v w x y z i o. rw i (address-left v w x y o))
+          is both),
       (right a b (shared a b)).1 (each _ _ _ _ _ _ a b (shared a b)
-        (λ v w x y z i o. rw i (pick-right v w x y o))
-        (λ v w x y z i o. rw i (address-right v w x y o))
-        is both),
+          (λ v w x y z i o. rw i (pick-right v w x y o))
+          (λ v w x y z i o. rw i (address-right v w x y o))
+          is both),
     )
 
 -- what two matches take, they overlap in, be it within range or not
 pub both-taken : (a b : Matching) (h : Header) → matches a h ≡ true → matches b h ≡ true → overlaps a b ≡ true
+unfolding overlaps
 both-taken a b h p q =
-    (overlapped a b h).1 (each _ _ _ _ _ _ a b h pick-both address-both ((left a b h).0 p) ((right a b h).0 q))
+    (pairs overlaps_field overlaps_address a b h).1 (each _ _ _ _ _ _ a b h pick-both address-both ((left a b h).0 p) ((right a b h).0 q))
 
 pub overlap-law : (a b : Matching) → IsNormal a → IsNormal b → (overlaps a b ≡ true) ↔ ShareHeader a b
 overlap-law a b p q = (to-shared a b p q, λ s. both-taken a b s.0 s.2 s.3)
+
+-- the law
+pub ruleset sharing = (overlap-law)

@@ -1,21 +1,21 @@
--- Twelve tests joined into one, and taken apart again.
+-- Something for each of the twelve fields; twelve tests joined into one, and taken apart again.
 use Rattle.std.proofs.Common.{◌≡◌, Bool, true, false, refl, ap, ◌∙◌}
 use Rattle.std.specs.Prelude.{◌&&◌}
 
--- a test of each field holds
-pub record Twelve (a b c d e f g h i j k l : Bool) : Type 0 where
-  pub in_port : a ≡ true
-  pub dl_src : b ≡ true
-  pub dl_dst : c ≡ true
-  pub dl_vlan : d ≡ true
-  pub dl_vlan_pcp : e ≡ true
-  pub dl_type : f ≡ true
-  pub nw_tos : g ≡ true
-  pub nw_proto : h ≡ true
-  pub nw_src : i ≡ true
-  pub nw_dst : j ≡ true
-  pub tp_src : k ≡ true
-  pub tp_dst : l ≡ true
+-- one thing for each field, in their order
+pub record Twelve (a b c d e f g h i j k l : Type 0) : Type 0 where
+  pub in_port : a
+  pub dl_src : b
+  pub dl_dst : c
+  pub dl_vlan : d
+  pub dl_vlan_pcp : e
+  pub dl_type : f
+  pub nw_tos : g
+  pub nw_proto : h
+  pub nw_src : i
+  pub nw_dst : j
+  pub tp_src : k
+  pub tp_dst : l
 
 pub first : (a b : Bool) → (a && b) ≡ true → a ≡ true
 first true b p = refl
@@ -28,7 +28,13 @@ second false b p = absurd cc
 pub both : (a b : Bool) → a ≡ true → b ≡ true → (a && b) ≡ true
 both a b p q = ap (λ (x : Bool). x && b) p ∙ q
 
-pub split : (a b c d e f g h i j k l : Bool) → (a && (b && (c && (d && (e && (f && (g && (h && (i && (j && (k && l))))))))))) ≡ true → Twelve a b c d e f g h i j k l
+-- each of twelve tests holds
+abbrev pub Yes : (a b c d e f g h i j k l : Bool) → Type 0
+Yes a b c d e f g h i j k l =
+    Twelve (a ≡ true) (b ≡ true) (c ≡ true) (d ≡ true) (e ≡ true) (f ≡ true)
+    (g ≡ true) (h ≡ true) (i ≡ true) (j ≡ true) (k ≡ true) (l ≡ true)
+
+pub split : (a b c d e f g h i j k l : Bool) → (a && (b && (c && (d && (e && (f && (g && (h && (i && (j && (k && l))))))))))) ≡ true → Yes a b c d e f g h i j k l
 split a b c d e f g h i j k l p0 =
     let p1 : (b && (c && (d && (e && (f && (g && (h && (i && (j && (k && l)))))))))) ≡ true = second _ _ p0 in
     let p2 : (c && (d && (e && (f && (g && (h && (i && (j && (k && l))))))))) ≡ true = second _ _ p1 in
@@ -56,5 +62,5 @@ split a b c d e f g h i j k l p0 =
       tp_dst = p11;
     }
 
-pub join : (a b c d e f g h i j k l : Bool) → Twelve a b c d e f g h i j k l → (a && (b && (c && (d && (e && (f && (g && (h && (i && (j && (k && l))))))))))) ≡ true
+pub join : (a b c d e f g h i j k l : Bool) → Yes a b c d e f g h i j k l → (a && (b && (c && (d && (e && (f && (g && (h && (i && (j && (k && l))))))))))) ≡ true
 join a b c d e f g h i j k l t = both _ _ t.in_port (both _ _ t.dl_src (both _ _ t.dl_dst (both _ _ t.dl_vlan (both _ _ t.dl_vlan_pcp (both _ _ t.dl_type (both _ _ t.nw_tos (both _ _ t.nw_proto (both _ _ t.nw_src (both _ _ t.nw_dst (both _ _ t.tp_src t.tp_dst))))))))))

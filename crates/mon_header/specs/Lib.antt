@@ -1,3 +1,4 @@
+pub mod Assigned
 pub mod Wild
 pub mod Matching
 pub mod Order

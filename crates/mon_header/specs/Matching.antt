@@ -2,6 +2,7 @@
 use Rattle.std.specs.Prelude.{◌≡◌, ℕ, ◌*◌, ◌/◌, ◌^◌, ◌<◌, ◌≤◌, max, Bool, ◌==◌, nat_le, not, ◌&&◌, ◌||◌, if◌then◌else◌}
 use Rattle.mon_header.specs.declared.header.Header.{Header}
 use Rattle.mon_header.specs.declared.wild.Wildcards.{Wildcards}
+use Rattle.mon_header.specs.Assigned.{PRIORITIES}
 use Rattle.mon_header.specs.Wild.{is_exact}
 
 -- a match: what is not compared, and the fields
@@ -123,4 +124,4 @@ overlaps a b = each_field overlaps_field overlaps_address a b
 
 -- the rank of an entry: an entry without wildcards stands above every priority
 abbrev pub effective : Matching → ℕ → ℕ
-effective m priority = if is_exact m.wild then 65536 else priority
+effective m priority = if is_exact m.wild then PRIORITIES else priority
