@@ -4,6 +4,7 @@ pub mod Matching
 pub mod Order
 pub mod Laws
 pub mod Places
+pub mod ActionTypes
 pub mod Raw
 pub mod Actions
 pub mod Classes
