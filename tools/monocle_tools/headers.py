@@ -148,7 +148,9 @@ def class_fault(h: Header) -> Optional[str]:
         if h.nw_proto not in (ICMP, TCP, UDP) and (h.tp_src or h.tp_dst):
             return f"probes of IP protocol {h.nw_proto} have no ports"
         return None
-    if h.dl_type < 0x0600 or h.dl_type in (ARP, 0x8100, 0x88A8, 0x8808, 0x8809):
+    if h.dl_type == ARP:
+        return "probes of ARP have no type of service and no ports" if h.nw_tos or h.tp_src or h.tp_dst else None
+    if h.dl_type < 0x0600 or h.dl_type in (0x8100, 0x88A8, 0x8808, 0x8809):
         return f"there are no probes of Ethernet type 0x{h.dl_type:04x}"
     if any(h[6:]):
         return f"probes of Ethernet type 0x{h.dl_type:04x} have no IP fields"

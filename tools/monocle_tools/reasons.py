@@ -12,14 +12,14 @@ from typing import AbstractSet, Iterator, List, NamedTuple, Optional, Sequence, 
 from .actions import ENQUEUE, OUTPUT, Emission, Sent, may, must, run
 from .files import BadInput, Certificate, Link, Probe, Refuted, Rule, Table
 
-from .headers import (DROP_MARK, ICMP, IPV4, TCP, UDP, WHOLE, Header, Match, class_fault, ethernet, header_of,
+from .headers import (ARP, DROP_MARK, ICMP, IPV4, TCP, UDP, WHOLE, Header, Match, class_fault, ethernet, header_of,
                       match_words, packet_words)  # fmt: skip
 
 SHOWN, TIED, NOT_SHOWN = "shown", "tied", "not shown"
 # how many packets are tried for a rule, what their free bits are filled with, and their Ethernet types and IP protocols
 TRIALS = 24
 FILLS = (0, WHOLE, int("5a" * 33, 16))
-KINDS = ((IPV4, TCP), (IPV4, UDP), (IPV4, ICMP), (IPV4, 47), (0x88B5, 0))
+KINDS = ((IPV4, TCP), (IPV4, UDP), (IPV4, ICMP), (IPV4, 47), (0x88B5, 0), (ARP, 1))
 BY_LOOKING = "Found by looking at some packets, as an explanation and not as a proof:"
 
 
@@ -244,7 +244,9 @@ class Explainer:
         """A header whose free fields are changed so that it can be a probe that comes in by this port."""
         changes = {"in_port": port, "dl_vlan": self.view.tag, "dl_src": h.dl_src & ~(1 << 40) | 2 << 40,
                    "dl_vlan_pcp": h.dl_vlan_pcp & 7, "nw_tos": h.nw_tos & 0xFC}  # fmt: skip
-        if h.dl_type != IPV4:
+        if h.dl_type == ARP:
+            changes.update(nw_tos=0, tp_src=0, tp_dst=0)
+        elif h.dl_type != IPV4:
             changes.update(dict.fromkeys(Header._fields[6:], 0))
         elif h.nw_proto not in (TCP, UDP):
             kept = 0xFF if h.nw_proto == ICMP else 0

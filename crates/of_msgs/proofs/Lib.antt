@@ -1,3 +1,4 @@
 pub mod Mods
 pub mod Written
 pub mod Determined
+pub mod Spelling

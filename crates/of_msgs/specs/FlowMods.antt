@@ -1,8 +1,9 @@
 -- A FLOW_MOD by its byte places (OpenFlow 1.0.0, modify flow entry message), and what one is refused for.
-use Rattle.std.specs.Prelude.{◌≡◌, ℕ, ◌<◌, ◌≤◌, ◌^◌, List, ◌++◌, length, take, drop, Result, Ok, Err}
+use Rattle.std.specs.Prelude.{◌≡◌, ℕ, ◌<◌, ◌≤◌, ◌^◌, List, ◌++◌, length, take, drop, slice_index, Result, Ok, Err}
+use Rattle.std.specs.List.{AllByRecursion}
 use Rattle.byteorder.specs.Endian.{big_bytes}
-use Rattle.of_frame.specs.Kinds.{FLOW_MOD}
-use Rattle.of_frame.specs.Header.{xid_of, made}
+use Rattle.of_frame.specs.Kinds.{VERSION, FLOW_MOD}
+use Rattle.of_frame.specs.Header.{IsFrame, kind_of, xid_of, made}
 use Rattle.of_match.specs.Layout.{match_of}
 use Rattle.mon_fields.specs.Fields.{number_at}
 use Rattle.of_action.specs.Reading.{actions_of}
@@ -73,6 +74,17 @@ abbrev pub fields_of_mod : FlowMod → List ℕ
 fields_of_mod m =
     big_bytes 8 m.cookie ++ big_bytes 2 (command_number m.command) ++ big_bytes 2 m.idle ++ big_bytes 2 m.hard
     ++ big_bytes 2 m.priority ++ big_bytes 4 m.buffer ++ big_bytes 2 m.out_port ++ big_bytes 2 m.flags
+
+-- the bytes are a whole frame, of the type FLOW_MOD
+pub record IsFlowModFrame (bytes : List ℕ) : Type 0 where
+  pub small : AllByRecursion (λ b. b < 256) bytes
+  pub frame : IsFrame bytes
+  pub version : slice_index bytes 0 ≡ VERSION
+  pub kind : kind_of bytes ≡ FLOW_MOD
+
+-- a frame with these flags in place of its own
+abbrev pub with_flags : ℕ → List ℕ → List ℕ
+with_flags set bytes = take 70 bytes ++ (big_bytes 2 set ++ drop 72 bytes)
 
 -- the frame of a FLOW_MOD: the match and the actions as they were spelled
 abbrev pub flow_mod_of : FlowMod → List ℕ

@@ -29,7 +29,7 @@ pub use command::Command;
 pub use error::{ErrorMsg, error_frame, read_error};
 pub use fault::ModFault;
 pub use flow_mod::{FlowMod, RawActions};
-pub use laws::reading_is_a_function;
+pub use laws::{reading_is_a_function, what_was_read_is_written};
 pub use mon_list::OutOfMemory;
 pub use of_frame::kinds;
 pub use packet::{NO_BUFFER, OWN_XID, PacketIn, packet_out, read_packet_in};
