@@ -31,6 +31,7 @@ pub struct Looker {
 
 impl Board {
     ghost use Rattle.std.specs.Prelude.{◌<◌, ◌≤◌, ◌++◌, ◌∷◌, IfOk};
+    ghost use Rattle.mon_board.specs.Rule.{view};
     ghost use Rattle.mon_board.specs.Versions.{last, NoneAbove, AllPublished};
     ghost use Rattle.mon_board.specs.Seats.{published_by, seen_by, slots_of, IsWriterOf, IsLookerOf};
 
@@ -86,6 +87,19 @@ impl Board {
         }
     }
 
+    /// Takes into a seat what a looker saw. All else that the seat knows stays.
+    fn take_in(&self, seat: &mut Seat<(), View>, other: Looker)
+        requires seat { seat.old.table_id ≡ self.now.table.shared.table_id }
+        requires other { IsLookerOf self.now other }
+        requires some { 0 < slots_of self.now }
+        ensures seat { seat.new.table_id ≡ self.now.table.shared.table_id }
+        ensures both { seat.new.me.0 ≡ view seat.old.me.0.writes seat.old.me.0.published (seat.old.me.0.seen ++ seen_by other) }
+        ensures none { seat.new.me.1 ≡ seat.old.me.1 }
+    {
+        let Looker { seat: spent } = other;
+        self.table.shared.join_seat::<Pair>(seat, spent);
+    }
+
     /// Takes in what another looker saw.
     pub fn join(&self, seat: &mut Looker, other: Looker)
         requires board { IsLookerOf self.now seat.old × IsLookerOf self.now other }
@@ -93,8 +107,7 @@ impl Board {
         ensures board { IsLookerOf self.now seat.new }
         ensures both { seen_by seat.new ≡ seen_by seat.old ++ seen_by other }
     {
-        let Looker { seat: spent } = other;
-        self.table.shared.join_seat::<Pair>(&mut seat.seat, spent);
+        self.take_in(&mut seat.seat, other);
     }
 
     /// Takes a looker in. Each version that it saw was published.
@@ -105,8 +118,7 @@ impl Board {
         ensures same { published_by seat.new ≡ published_by seat.old }
         ensures published { AllPublished (published_by seat.new) (seen_by other) }
     {
-        let Looker { seat: spent } = other;
-        self.table.shared.join_seat::<Pair>(&mut seat.seat, spent);
+        self.take_in(&mut seat.seat, other);
         self.table.shared.load::<Show>(&mut seat.seat, 0);
     }
 }

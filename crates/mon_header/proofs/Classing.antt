@@ -6,6 +6,7 @@ use Rattle.std.proofs.lemmas.Bool.Decides.{nat_tests}
 use Rattle.mon_header.specs.declared.class.Class.{Class}
 use Rattle.mon_header.specs.declared.class.Class.TheVariants.{Tcp, Udp, Icmp, OtherIpv4, Plain, Arp}
 use Rattle.mon_header.specs.declared.header.Header.{Header}
+use Rattle.mon_header.specs.Assigned.{IPV4_TYPE, ARP_TYPE, ICMP_PROTOCOL, TCP_PROTOCOL, UDP_PROTOCOL}
 use Rattle.mon_header.specs.Matching.{InRange}
 use Rattle.mon_header.specs.Classes.{fits, has_tag_fields, is_plain_type, has_form, is_in_class, in_class}
 use Rattle.mon_header.proofs.Twelve.{split, first, second}
@@ -40,8 +41,8 @@ class-form c h e = second (h.nw_tos % 4 == 0) _ (second (has_tag_fields h) _ (se
 -- the class that the type and the protocol leave
 left_by : ℕ → ℕ → Class
 left_by type protocol =
-    cond (type == 0x0800) (cond (protocol == 6) Tcp (cond (protocol == 17) Udp (cond (protocol == 1) Icmp OtherIpv4)))
-    (cond (type == 0x0806) Arp Plain)
+    cond (type == IPV4_TYPE) (cond (protocol == TCP_PROTOCOL) Tcp (cond (protocol == UDP_PROTOCOL) Udp (cond (protocol == ICMP_PROTOCOL) Icmp OtherIpv4)))
+    (cond (type == ARP_TYPE) Arp Plain)
 
 form-left : (c : Class) (h : Header) → has_form c h ≡ true → left_by h.dl_type h.nw_proto ≡ c
 unfolding has_form is_plain_type left_by
@@ -94,3 +95,6 @@ some-class h = (some-in h, λ (s : (c : Class) × (is_in_class c h ≡ true)). i
 
 pub class-range : (c : Class) (h : Header) → is_in_class c h ≡ true → InRange h
 class-range c h e = fits-range h (class-fits c h e)
+
+-- the law
+pub ruleset classing = (some-class, one-class, class-range)

@@ -1,13 +1,13 @@
 -- One match covers another exactly where it takes each header within range that the other takes.
-use Rattle.std.proofs.Common.{◌≡◌, ℕ, ◌/◌, ◌^◌, ◌<◌, ◌≤◌, ◌↔◌, Bool, true, false, cond, refl, sym, ◌∙◌, arith, inl, inr}
+use Rattle.std.proofs.Common.{◌≡◌, ℕ, ◌/◌, ◌^◌, ◌<◌, ◌≤◌, ◌↔◌, Bool, true, false, cond, refl, sym, subst, ◌∙◌, arith, inl, inr}
 use Rattle.std.specs.Prelude.{◌==◌, nat_le, ◌&&◌}
 use Rattle.std.proofs.lemmas.Bool.{eqb-true, eq-eqb}
 use Rattle.std.proofs.lemmas.Bool.Decides.{leb_tells, nat_tests}
 use Rattle.mon_header.specs.declared.header.Header.{Header}
-use Rattle.mon_header.specs.Matching.{Matching, InRange, IsNormal, agree_above, takes, covers_field, covers_address, covers}
+use Rattle.mon_header.specs.Matching.{Matching, IsNormal, agree_above, takes, covers_field, covers_address, matches, covers}
 use Rattle.mon_header.specs.Laws.{TakesAllOf}
 use Rattle.mon_header.proofs.Agreeing.{agree-up, beside, beside-apart, beside-agrees, beside-below}
-use Rattle.mon_header.proofs.Twelve.{Taken, taken, taken-whole, Covered, covered, covered-whole}
+use Rattle.mon_header.proofs.Fields.{each, drawn, drawn-is, drawn-below, pairs, left, right}
 
 -- a value that the narrow match takes, and another than the wide one's where the narrow one does not compare the field
 tell : Bool → ℕ → ℕ → ℕ
@@ -77,94 +77,41 @@ address-takes wide narrow x y z p q =
 
 -- a header that the narrow match takes, and the wide one only where it covers it
 telling : Matching → Matching → Header
-telling w n = record {
-  in_port = tell n.wild.in_port w.fields.in_port n.fields.in_port;
-  dl_src = tell n.wild.dl_src w.fields.dl_src n.fields.dl_src;
-  dl_dst = tell n.wild.dl_dst w.fields.dl_dst n.fields.dl_dst;
-  dl_vlan = tell n.wild.dl_vlan w.fields.dl_vlan n.fields.dl_vlan;
-  dl_vlan_pcp = tell n.wild.dl_vlan_pcp w.fields.dl_vlan_pcp n.fields.dl_vlan_pcp;
-  dl_type = tell n.wild.dl_type w.fields.dl_type n.fields.dl_type;
-  nw_tos = tell n.wild.nw_tos w.fields.nw_tos n.fields.nw_tos;
-  nw_proto = tell n.wild.nw_proto w.fields.nw_proto n.fields.nw_proto;
-  nw_src = tell_address w.wild.nw_src n.wild.nw_src w.fields.nw_src n.fields.nw_src;
-  nw_dst = tell_address w.wild.nw_dst n.wild.nw_dst w.fields.nw_dst n.fields.nw_dst;
-  tp_src = tell n.wild.tp_src w.fields.tp_src n.fields.tp_src;
-  tp_dst = tell n.wild.tp_dst w.fields.tp_dst n.fields.tp_dst;
-}
-
-telling-below : (w n : Matching) → IsNormal n → InRange (telling w n)
-unfolding telling
-telling-below w n p = record {
-  in_port = tell-below n.wild.in_port w.fields.in_port n.fields.in_port (2 ^ 16) p.range.in_port (omega arith);
-  dl_src = tell-below n.wild.dl_src w.fields.dl_src n.fields.dl_src (2 ^ 48) p.range.dl_src (omega arith);
-  dl_dst = tell-below n.wild.dl_dst w.fields.dl_dst n.fields.dl_dst (2 ^ 48) p.range.dl_dst (omega arith);
-  dl_vlan = tell-below n.wild.dl_vlan w.fields.dl_vlan n.fields.dl_vlan (2 ^ 16) p.range.dl_vlan (omega arith);
-  dl_vlan_pcp = tell-below n.wild.dl_vlan_pcp w.fields.dl_vlan_pcp n.fields.dl_vlan_pcp (2 ^ 8) p.range.dl_vlan_pcp (omega arith);
-  dl_type = tell-below n.wild.dl_type w.fields.dl_type n.fields.dl_type (2 ^ 16) p.range.dl_type (omega arith);
-  nw_tos = tell-below n.wild.nw_tos w.fields.nw_tos n.fields.nw_tos (2 ^ 8) p.range.nw_tos (omega arith);
-  nw_proto = tell-below n.wild.nw_proto w.fields.nw_proto n.fields.nw_proto (2 ^ 8) p.range.nw_proto (omega arith);
-  nw_src = address-below w.wild.nw_src n.wild.nw_src w.fields.nw_src n.fields.nw_src p.nw_src_count p.range.nw_src;
-  nw_dst = address-below w.wild.nw_dst n.wild.nw_dst w.fields.nw_dst n.fields.nw_dst p.nw_dst_count p.range.nw_dst;
-  tp_src = tell-below n.wild.tp_src w.fields.tp_src n.fields.tp_src (2 ^ 16) p.range.tp_src (omega arith);
-  tp_dst = tell-below n.wild.tp_dst w.fields.tp_dst n.fields.tp_dst (2 ^ 16) p.range.tp_dst (omega arith);
-}
-
-telling-narrow : (w n : Matching) → Taken n (telling w n)
-unfolding telling
-telling-narrow w n = record {
-  in_port = tell-narrow n.wild.in_port w.fields.in_port n.fields.in_port;
-  dl_src = tell-narrow n.wild.dl_src w.fields.dl_src n.fields.dl_src;
-  dl_dst = tell-narrow n.wild.dl_dst w.fields.dl_dst n.fields.dl_dst;
-  dl_vlan = tell-narrow n.wild.dl_vlan w.fields.dl_vlan n.fields.dl_vlan;
-  dl_vlan_pcp = tell-narrow n.wild.dl_vlan_pcp w.fields.dl_vlan_pcp n.fields.dl_vlan_pcp;
-  dl_type = tell-narrow n.wild.dl_type w.fields.dl_type n.fields.dl_type;
-  nw_tos = tell-narrow n.wild.nw_tos w.fields.nw_tos n.fields.nw_tos;
-  nw_proto = tell-narrow n.wild.nw_proto w.fields.nw_proto n.fields.nw_proto;
-  nw_src = address-narrow w.wild.nw_src n.wild.nw_src w.fields.nw_src n.fields.nw_src;
-  nw_dst = address-narrow w.wild.nw_dst n.wild.nw_dst w.fields.nw_dst n.fields.nw_dst;
-  tp_src = tell-narrow n.wild.tp_src w.fields.tp_src n.fields.tp_src;
-  tp_dst = tell-narrow n.wild.tp_dst w.fields.tp_dst n.fields.tp_dst;
-}
-
-telling-covers : (w n : Matching) → Taken w (telling w n) → Covered w n
-unfolding telling
-telling-covers w n t = record {
-  in_port = tell-covers w.wild.in_port n.wild.in_port w.fields.in_port n.fields.in_port t.in_port;
-  dl_src = tell-covers w.wild.dl_src n.wild.dl_src w.fields.dl_src n.fields.dl_src t.dl_src;
-  dl_dst = tell-covers w.wild.dl_dst n.wild.dl_dst w.fields.dl_dst n.fields.dl_dst t.dl_dst;
-  dl_vlan = tell-covers w.wild.dl_vlan n.wild.dl_vlan w.fields.dl_vlan n.fields.dl_vlan t.dl_vlan;
-  dl_vlan_pcp = tell-covers w.wild.dl_vlan_pcp n.wild.dl_vlan_pcp w.fields.dl_vlan_pcp n.fields.dl_vlan_pcp t.dl_vlan_pcp;
-  dl_type = tell-covers w.wild.dl_type n.wild.dl_type w.fields.dl_type n.fields.dl_type t.dl_type;
-  nw_tos = tell-covers w.wild.nw_tos n.wild.nw_tos w.fields.nw_tos n.fields.nw_tos t.nw_tos;
-  nw_proto = tell-covers w.wild.nw_proto n.wild.nw_proto w.fields.nw_proto n.fields.nw_proto t.nw_proto;
-  nw_src = address-covers w.wild.nw_src n.wild.nw_src w.fields.nw_src n.fields.nw_src t.nw_src;
-  nw_dst = address-covers w.wild.nw_dst n.wild.nw_dst w.fields.nw_dst n.fields.nw_dst t.nw_dst;
-  tp_src = tell-covers w.wild.tp_src n.wild.tp_src w.fields.tp_src n.fields.tp_src t.tp_src;
-  tp_dst = tell-covers w.wild.tp_dst n.wild.tp_dst w.fields.tp_dst n.fields.tp_dst t.tp_dst;
-}
-
-covered-taken : (w n : Matching) (h : Header) → Covered w n → Taken n h → Taken w h
-covered-taken w n h c t = record {
-  in_port = covers-takes w.wild.in_port n.wild.in_port w.fields.in_port n.fields.in_port h.in_port c.in_port t.in_port;
-  dl_src = covers-takes w.wild.dl_src n.wild.dl_src w.fields.dl_src n.fields.dl_src h.dl_src c.dl_src t.dl_src;
-  dl_dst = covers-takes w.wild.dl_dst n.wild.dl_dst w.fields.dl_dst n.fields.dl_dst h.dl_dst c.dl_dst t.dl_dst;
-  dl_vlan = covers-takes w.wild.dl_vlan n.wild.dl_vlan w.fields.dl_vlan n.fields.dl_vlan h.dl_vlan c.dl_vlan t.dl_vlan;
-  dl_vlan_pcp = covers-takes w.wild.dl_vlan_pcp n.wild.dl_vlan_pcp w.fields.dl_vlan_pcp n.fields.dl_vlan_pcp h.dl_vlan_pcp c.dl_vlan_pcp t.dl_vlan_pcp;
-  dl_type = covers-takes w.wild.dl_type n.wild.dl_type w.fields.dl_type n.fields.dl_type h.dl_type c.dl_type t.dl_type;
-  nw_tos = covers-takes w.wild.nw_tos n.wild.nw_tos w.fields.nw_tos n.fields.nw_tos h.nw_tos c.nw_tos t.nw_tos;
-  nw_proto = covers-takes w.wild.nw_proto n.wild.nw_proto w.fields.nw_proto n.fields.nw_proto h.nw_proto c.nw_proto t.nw_proto;
-  nw_src = address-takes w.wild.nw_src n.wild.nw_src w.fields.nw_src n.fields.nw_src h.nw_src c.nw_src t.nw_src;
-  nw_dst = address-takes w.wild.nw_dst n.wild.nw_dst w.fields.nw_dst n.fields.nw_dst h.nw_dst c.nw_dst t.nw_dst;
-  tp_src = covers-takes w.wild.tp_src n.wild.tp_src w.fields.tp_src n.fields.tp_src h.tp_src c.tp_src t.tp_src;
-  tp_dst = covers-takes w.wild.tp_dst n.wild.tp_dst w.fields.tp_dst n.fields.tp_dst h.tp_dst c.tp_dst t.tp_dst;
-}
+telling = drawn (λ v w. tell w) tell_address
 
 to-all : (w n : Matching) → covers w n ≡ true → TakesAllOf w n
-to-all w n e = λ (h : Header) range m. taken-whole w h (covered-taken w n h (covered w n e) (taken n h m))
+unfolding covers
+to-all w n e = λ (h : Header) range m.
+    (left w n h).1 (each _ _ _ _ _ _ w n h covers-takes address-takes ((pairs covers_field covers_address w n h).0 e) ((right w n h).0 m))
 
-from-all : (w n : Matching) → IsNormal n → TakesAllOf w n → covers w n ≡ true
-from-all w n p all =
-    covered-whole w n (telling-covers w n (taken w (telling w n) (all (telling w n) (telling-below w n p) (taken-whole n (telling w n) (telling-narrow w n)))))
+telling-narrow : (w n : Matching) → matches n (telling w n) ≡ true
+unfolding telling
+telling-narrow w n =
+    let is = drawn-is (λ v w. tell w) tell_address w n in
+    (right w n (telling w n)).1 (each _ _ _ _ _ _ w n (telling w n)
+    (λ v w x y z p q. rw p (tell-narrow w x y))
+    (λ v w x y z p q. rw p (address-narrow v w x y))
+    is is)
+
+telling-covers : (w n : Matching) → matches w (telling w n) ≡ true → covers w n ≡ true
+unfolding telling covers
+telling-covers w n t =
+    let is = drawn-is (λ v w. tell w) tell_address w n in
+    (pairs covers_field covers_address w n (telling w n)).1 (each _ _ _ _ _ _ w n (telling w n)
+    (λ v w x y z p q. tell-covers v w x y (subst (λ (n : ℕ). takes v x n ≡ true) p q))
+    (λ v w x y z p q. address-covers v w x y (subst (λ (n : ℕ). agree_above v x n ≡ true) p q))
+    is ((left w n (telling w n)).0 t))
+
+from-all : (w n : Matching) → IsNormal w → IsNormal n → TakesAllOf w n → covers w n ≡ true
+unfolding telling
+from-all w n p q all =
+    let below = drawn-below (λ v w. tell w) tell_address w n
+    (λ v w x y n a b c. tell-below w x y n b c)
+    (λ v w x y a b c. address-below v w x y a c) p q in
+    telling-covers w n (all (telling w n) below (telling-narrow w n))
 
 pub cover-law : (w n : Matching) → IsNormal w → IsNormal n → (covers w n ≡ true) ↔ TakesAllOf w n
-cover-law w n p q = (to-all w n, from-all w n q)
+cover-law w n p q = (to-all w n, from-all w n p q)
+
+-- the law
+pub ruleset covering = (cover-law)

@@ -55,3 +55,6 @@ kept-is-value w v h kept_ones e f = rw (f, e) refl
 
 pub normal-kept : (m : Matching) → IsNormal m → normal (unpacked (packed m.wild)) m.fields ≡ m
 normal-kept m p = ap (λ (w : Wildcards). normal w m.fields) (unpacked-packed m.wild p.nw_src_count p.nw_dst_count) ∙ p.same
+
+-- the law
+pub ruleset keeping = (normal-kept)

@@ -4,6 +4,7 @@ pub mod Packing
 pub mod Made
 pub mod Sorting
 pub mod Twelve
+pub mod Fields
 pub mod Agreeing
 pub mod Sharing
 pub mod Covering

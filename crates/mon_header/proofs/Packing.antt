@@ -43,53 +43,37 @@ small w s d = record {
   nw_dst = d;
 }
 
-in_port-digit : (w : Wildcards) → Small w → packed w / 2 ^ 0 % 2 ≡ flag w.in_port
-unfolding packed
-in_port-digit w f = omega arith
+-- each digit of the number is the flag or the count that stands there
+record Digits (w : Wildcards) : Type 0 where
+  in_port : packed w / 2 ^ 0 % 2 ≡ flag w.in_port
+  dl_vlan : packed w / 2 ^ 1 % 2 ≡ flag w.dl_vlan
+  dl_src : packed w / 2 ^ 2 % 2 ≡ flag w.dl_src
+  dl_dst : packed w / 2 ^ 3 % 2 ≡ flag w.dl_dst
+  dl_type : packed w / 2 ^ 4 % 2 ≡ flag w.dl_type
+  nw_proto : packed w / 2 ^ 5 % 2 ≡ flag w.nw_proto
+  tp_src : packed w / 2 ^ 6 % 2 ≡ flag w.tp_src
+  tp_dst : packed w / 2 ^ 7 % 2 ≡ flag w.tp_dst
+  dl_vlan_pcp : packed w / 2 ^ 20 % 2 ≡ flag w.dl_vlan_pcp
+  nw_tos : packed w / 2 ^ 21 % 2 ≡ flag w.nw_tos
+  nw_src : min (packed w / 2 ^ 8 % 64) 32 ≡ w.nw_src
+  nw_dst : min (packed w / 2 ^ 14 % 64) 32 ≡ w.nw_dst
 
-dl_vlan-digit : (w : Wildcards) → Small w → packed w / 2 ^ 1 % 2 ≡ flag w.dl_vlan
+digits : (w : Wildcards) → Small w → Digits w
 unfolding packed
-dl_vlan-digit w f = omega arith
-
-dl_src-digit : (w : Wildcards) → Small w → packed w / 2 ^ 2 % 2 ≡ flag w.dl_src
-unfolding packed
-dl_src-digit w f = omega arith
-
-dl_dst-digit : (w : Wildcards) → Small w → packed w / 2 ^ 3 % 2 ≡ flag w.dl_dst
-unfolding packed
-dl_dst-digit w f = omega arith
-
-dl_type-digit : (w : Wildcards) → Small w → packed w / 2 ^ 4 % 2 ≡ flag w.dl_type
-unfolding packed
-dl_type-digit w f = omega arith
-
-nw_proto-digit : (w : Wildcards) → Small w → packed w / 2 ^ 5 % 2 ≡ flag w.nw_proto
-unfolding packed
-nw_proto-digit w f = omega arith
-
-tp_src-digit : (w : Wildcards) → Small w → packed w / 2 ^ 6 % 2 ≡ flag w.tp_src
-unfolding packed
-tp_src-digit w f = omega arith
-
-tp_dst-digit : (w : Wildcards) → Small w → packed w / 2 ^ 7 % 2 ≡ flag w.tp_dst
-unfolding packed
-tp_dst-digit w f = omega arith
-
-dl_vlan_pcp-digit : (w : Wildcards) → Small w → packed w / 2 ^ 20 % 2 ≡ flag w.dl_vlan_pcp
-unfolding packed
-dl_vlan_pcp-digit w f = omega arith
-
-nw_tos-digit : (w : Wildcards) → Small w → packed w / 2 ^ 21 % 2 ≡ flag w.nw_tos
-unfolding packed
-nw_tos-digit w f = omega arith
-
-nw_src-digit : (w : Wildcards) → Small w → min (packed w / 2 ^ 8 % 64) 32 ≡ w.nw_src
-unfolding packed
-nw_src-digit w f = omega arith
-
-nw_dst-digit : (w : Wildcards) → Small w → min (packed w / 2 ^ 14 % 64) 32 ≡ w.nw_dst
-unfolding packed
-nw_dst-digit w f = omega arith
+digits w f = record {
+  in_port = omega arith;
+  dl_vlan = omega arith;
+  dl_src = omega arith;
+  dl_dst = omega arith;
+  dl_type = omega arith;
+  nw_proto = omega arith;
+  tp_src = omega arith;
+  tp_dst = omega arith;
+  dl_vlan_pcp = omega arith;
+  nw_tos = omega arith;
+  nw_src = omega arith;
+  nw_dst = omega arith;
+}
 
 digit-is : (n : ℕ) (f : Bool) → n ≡ flag f → (n == 1) ≡ f
 digit-is n f e = ap (λ (x : ℕ). x == 1) e ∙ flag-is f
@@ -97,19 +81,20 @@ digit-is n f e = ap (λ (x : ℕ). x == 1) e ∙ flag-is f
 again : (w : Wildcards) → Small w → unpacked (packed w) ≡ w
 unfolding unpacked
 again w f =
+    let d : Digits w = digits w f in
     simp (
-      digit-is _ _ (in_port-digit w f),
-      digit-is _ _ (dl_vlan-digit w f),
-      digit-is _ _ (dl_src-digit w f),
-      digit-is _ _ (dl_dst-digit w f),
-      digit-is _ _ (dl_type-digit w f),
-      digit-is _ _ (nw_proto-digit w f),
-      digit-is _ _ (tp_src-digit w f),
-      digit-is _ _ (tp_dst-digit w f),
-      digit-is _ _ (dl_vlan_pcp-digit w f),
-      digit-is _ _ (nw_tos-digit w f),
-      nw_src-digit w f,
-      nw_dst-digit w f,
+      digit-is _ _ d.in_port,
+      digit-is _ _ d.dl_vlan,
+      digit-is _ _ d.dl_src,
+      digit-is _ _ d.dl_dst,
+      digit-is _ _ d.dl_type,
+      digit-is _ _ d.nw_proto,
+      digit-is _ _ d.tp_src,
+      digit-is _ _ d.tp_dst,
+      digit-is _ _ d.dl_vlan_pcp,
+      digit-is _ _ d.nw_tos,
+      d.nw_src,
+      d.nw_dst,
     )
 
 pub unpacked-packed : (w : Wildcards) → w.nw_src ≤ 32 → w.nw_dst ≤ 32 → unpacked (packed w) ≡ w

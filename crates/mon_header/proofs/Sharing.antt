@@ -4,10 +4,10 @@ use Rattle.std.specs.Prelude.{nat_le, max}
 use Rattle.std.proofs.lemmas.Bool.{eqb-true, eq-eqb}
 use Rattle.std.proofs.lemmas.Bool.Decides.{leb_tells}
 use Rattle.mon_header.specs.declared.header.Header.{Header}
-use Rattle.mon_header.specs.Matching.{Matching, InRange, IsNormal, agree_above, takes, overlaps_field, overlaps_address, matches, overlaps}
+use Rattle.mon_header.specs.Matching.{Matching, IsNormal, agree_above, takes, overlaps_field, overlaps_address, matches, overlaps}
 use Rattle.mon_header.specs.Laws.{ShareHeader}
 use Rattle.mon_header.proofs.Agreeing.{agree-up}
-use Rattle.mon_header.proofs.Twelve.{Taken, taken, taken-whole, Overlapped, overlapped, overlapped-whole}
+use Rattle.mon_header.proofs.Fields.{each, drawn, drawn-is, drawn-below, pairs, left, right}
 
 -- the value that both take of a plain field: the one that is compared
 pick : Bool → ℕ → ℕ → ℕ
@@ -71,99 +71,33 @@ address-both a b x y z p q =
 
 -- the header that both take
 shared : Matching → Matching → Header
-shared a b = record {
-  in_port = pick a.wild.in_port a.fields.in_port b.fields.in_port;
-  dl_src = pick a.wild.dl_src a.fields.dl_src b.fields.dl_src;
-  dl_dst = pick a.wild.dl_dst a.fields.dl_dst b.fields.dl_dst;
-  dl_vlan = pick a.wild.dl_vlan a.fields.dl_vlan b.fields.dl_vlan;
-  dl_vlan_pcp = pick a.wild.dl_vlan_pcp a.fields.dl_vlan_pcp b.fields.dl_vlan_pcp;
-  dl_type = pick a.wild.dl_type a.fields.dl_type b.fields.dl_type;
-  nw_tos = pick a.wild.nw_tos a.fields.nw_tos b.fields.nw_tos;
-  nw_proto = pick a.wild.nw_proto a.fields.nw_proto b.fields.nw_proto;
-  nw_src = pick_address a.wild.nw_src b.wild.nw_src a.fields.nw_src b.fields.nw_src;
-  nw_dst = pick_address a.wild.nw_dst b.wild.nw_dst a.fields.nw_dst b.fields.nw_dst;
-  tp_src = pick a.wild.tp_src a.fields.tp_src b.fields.tp_src;
-  tp_dst = pick a.wild.tp_dst a.fields.tp_dst b.fields.tp_dst;
-}
+shared = drawn (λ v w. pick v) pick_address
 
-shared-below : (a b : Matching) → InRange a.fields → InRange b.fields → InRange (shared a b)
-unfolding shared
-shared-below a b p q = record {
-  in_port = pick-below a.wild.in_port a.fields.in_port b.fields.in_port (2 ^ 16) p.in_port q.in_port;
-  dl_src = pick-below a.wild.dl_src a.fields.dl_src b.fields.dl_src (2 ^ 48) p.dl_src q.dl_src;
-  dl_dst = pick-below a.wild.dl_dst a.fields.dl_dst b.fields.dl_dst (2 ^ 48) p.dl_dst q.dl_dst;
-  dl_vlan = pick-below a.wild.dl_vlan a.fields.dl_vlan b.fields.dl_vlan (2 ^ 16) p.dl_vlan q.dl_vlan;
-  dl_vlan_pcp = pick-below a.wild.dl_vlan_pcp a.fields.dl_vlan_pcp b.fields.dl_vlan_pcp (2 ^ 8) p.dl_vlan_pcp q.dl_vlan_pcp;
-  dl_type = pick-below a.wild.dl_type a.fields.dl_type b.fields.dl_type (2 ^ 16) p.dl_type q.dl_type;
-  nw_tos = pick-below a.wild.nw_tos a.fields.nw_tos b.fields.nw_tos (2 ^ 8) p.nw_tos q.nw_tos;
-  nw_proto = pick-below a.wild.nw_proto a.fields.nw_proto b.fields.nw_proto (2 ^ 8) p.nw_proto q.nw_proto;
-  nw_src = address-below a.wild.nw_src b.wild.nw_src a.fields.nw_src b.fields.nw_src (2 ^ 32) p.nw_src q.nw_src;
-  nw_dst = address-below a.wild.nw_dst b.wild.nw_dst a.fields.nw_dst b.fields.nw_dst (2 ^ 32) p.nw_dst q.nw_dst;
-  tp_src = pick-below a.wild.tp_src a.fields.tp_src b.fields.tp_src (2 ^ 16) p.tp_src q.tp_src;
-  tp_dst = pick-below a.wild.tp_dst a.fields.tp_dst b.fields.tp_dst (2 ^ 16) p.tp_dst q.tp_dst;
-}
-
-shared-left : (a b : Matching) → Overlapped a b → Taken a (shared a b)
-unfolding shared
-shared-left a b o = record {
-  in_port = pick-left a.wild.in_port b.wild.in_port a.fields.in_port b.fields.in_port;
-  dl_src = pick-left a.wild.dl_src b.wild.dl_src a.fields.dl_src b.fields.dl_src;
-  dl_dst = pick-left a.wild.dl_dst b.wild.dl_dst a.fields.dl_dst b.fields.dl_dst;
-  dl_vlan = pick-left a.wild.dl_vlan b.wild.dl_vlan a.fields.dl_vlan b.fields.dl_vlan;
-  dl_vlan_pcp = pick-left a.wild.dl_vlan_pcp b.wild.dl_vlan_pcp a.fields.dl_vlan_pcp b.fields.dl_vlan_pcp;
-  dl_type = pick-left a.wild.dl_type b.wild.dl_type a.fields.dl_type b.fields.dl_type;
-  nw_tos = pick-left a.wild.nw_tos b.wild.nw_tos a.fields.nw_tos b.fields.nw_tos;
-  nw_proto = pick-left a.wild.nw_proto b.wild.nw_proto a.fields.nw_proto b.fields.nw_proto;
-  nw_src = address-left a.wild.nw_src b.wild.nw_src a.fields.nw_src b.fields.nw_src o.nw_src;
-  nw_dst = address-left a.wild.nw_dst b.wild.nw_dst a.fields.nw_dst b.fields.nw_dst o.nw_dst;
-  tp_src = pick-left a.wild.tp_src b.wild.tp_src a.fields.tp_src b.fields.tp_src;
-  tp_dst = pick-left a.wild.tp_dst b.wild.tp_dst a.fields.tp_dst b.fields.tp_dst;
-}
-
-shared-right : (a b : Matching) → Overlapped a b → Taken b (shared a b)
-unfolding shared
-shared-right a b o = record {
-  in_port = pick-right a.wild.in_port b.wild.in_port a.fields.in_port b.fields.in_port o.in_port;
-  dl_src = pick-right a.wild.dl_src b.wild.dl_src a.fields.dl_src b.fields.dl_src o.dl_src;
-  dl_dst = pick-right a.wild.dl_dst b.wild.dl_dst a.fields.dl_dst b.fields.dl_dst o.dl_dst;
-  dl_vlan = pick-right a.wild.dl_vlan b.wild.dl_vlan a.fields.dl_vlan b.fields.dl_vlan o.dl_vlan;
-  dl_vlan_pcp = pick-right a.wild.dl_vlan_pcp b.wild.dl_vlan_pcp a.fields.dl_vlan_pcp b.fields.dl_vlan_pcp o.dl_vlan_pcp;
-  dl_type = pick-right a.wild.dl_type b.wild.dl_type a.fields.dl_type b.fields.dl_type o.dl_type;
-  nw_tos = pick-right a.wild.nw_tos b.wild.nw_tos a.fields.nw_tos b.fields.nw_tos o.nw_tos;
-  nw_proto = pick-right a.wild.nw_proto b.wild.nw_proto a.fields.nw_proto b.fields.nw_proto o.nw_proto;
-  nw_src = address-right a.wild.nw_src b.wild.nw_src a.fields.nw_src b.fields.nw_src o.nw_src;
-  nw_dst = address-right a.wild.nw_dst b.wild.nw_dst a.fields.nw_dst b.fields.nw_dst o.nw_dst;
-  tp_src = pick-right a.wild.tp_src b.wild.tp_src a.fields.tp_src b.fields.tp_src o.tp_src;
-  tp_dst = pick-right a.wild.tp_dst b.wild.tp_dst a.fields.tp_dst b.fields.tp_dst o.tp_dst;
-}
-
-taken-both : (a b : Matching) (h : Header) → Taken a h → Taken b h → Overlapped a b
-taken-both a b h p q = record {
-  in_port = pick-both a.wild.in_port b.wild.in_port a.fields.in_port b.fields.in_port h.in_port p.in_port q.in_port;
-  dl_src = pick-both a.wild.dl_src b.wild.dl_src a.fields.dl_src b.fields.dl_src h.dl_src p.dl_src q.dl_src;
-  dl_dst = pick-both a.wild.dl_dst b.wild.dl_dst a.fields.dl_dst b.fields.dl_dst h.dl_dst p.dl_dst q.dl_dst;
-  dl_vlan = pick-both a.wild.dl_vlan b.wild.dl_vlan a.fields.dl_vlan b.fields.dl_vlan h.dl_vlan p.dl_vlan q.dl_vlan;
-  dl_vlan_pcp = pick-both a.wild.dl_vlan_pcp b.wild.dl_vlan_pcp a.fields.dl_vlan_pcp b.fields.dl_vlan_pcp h.dl_vlan_pcp p.dl_vlan_pcp q.dl_vlan_pcp;
-  dl_type = pick-both a.wild.dl_type b.wild.dl_type a.fields.dl_type b.fields.dl_type h.dl_type p.dl_type q.dl_type;
-  nw_tos = pick-both a.wild.nw_tos b.wild.nw_tos a.fields.nw_tos b.fields.nw_tos h.nw_tos p.nw_tos q.nw_tos;
-  nw_proto = pick-both a.wild.nw_proto b.wild.nw_proto a.fields.nw_proto b.fields.nw_proto h.nw_proto p.nw_proto q.nw_proto;
-  nw_src = address-both a.wild.nw_src b.wild.nw_src a.fields.nw_src b.fields.nw_src h.nw_src p.nw_src q.nw_src;
-  nw_dst = address-both a.wild.nw_dst b.wild.nw_dst a.fields.nw_dst b.fields.nw_dst h.nw_dst p.nw_dst q.nw_dst;
-  tp_src = pick-both a.wild.tp_src b.wild.tp_src a.fields.tp_src b.fields.tp_src h.tp_src p.tp_src q.tp_src;
-  tp_dst = pick-both a.wild.tp_dst b.wild.tp_dst a.fields.tp_dst b.fields.tp_dst h.tp_dst p.tp_dst q.tp_dst;
-}
-
-to-shared : (a b : Matching) → InRange a.fields → InRange b.fields → overlaps a b ≡ true → ShareHeader a b
+to-shared : (a b : Matching) → IsNormal a → IsNormal b → overlaps a b ≡ true → ShareHeader a b
+unfolding shared overlaps
 to-shared a b p q e =
-    let o : Overlapped a b = overlapped a b e in
-    (shared a b, shared-below a b p q, taken-whole a (shared a b) (shared-left a b o), taken-whole b (shared a b) (shared-right a b o))
-
-from-shared : (a b : Matching) → ShareHeader a b → overlaps a b ≡ true
-from-shared a b s = overlapped-whole a b (taken-both a b s.0 (taken a s.0 s.2) (taken b s.0 s.3))
-
-pub overlap-law : (a b : Matching) → IsNormal a → IsNormal b → (overlaps a b ≡ true) ↔ ShareHeader a b
-overlap-law a b p q = (to-shared a b p.range q.range, from-shared a b)
+    let is = drawn-is (λ v w. pick v) pick_address a b in
+    let both = (pairs overlaps_field overlaps_address a b (shared a b)).0 e in (
+      shared a b,
+      drawn-below (λ v w. pick v) pick_address a b (λ v w x y n c d e. pick-below v x y n c d) (λ v w x y c d e. address-below v w x y (2 ^ 32) d e) p q,
+      (left a b (shared a b)).1 (each _ _ _ _ _ _ a b (shared a b)
+          (λ v w x y z i o. rw i (pick-left v w x y))
+          (λ v w x y z i o. rw i (address-left v w x y o))
+          is both),
+      (right a b (shared a b)).1 (each _ _ _ _ _ _ a b (shared a b)
+          (λ v w x y z i o. rw i (pick-right v w x y o))
+          (λ v w x y z i o. rw i (address-right v w x y o))
+          is both),
+    )
 
 -- what two matches take, they overlap in, be it within range or not
 pub both-taken : (a b : Matching) (h : Header) → matches a h ≡ true → matches b h ≡ true → overlaps a b ≡ true
-both-taken a b h p q = overlapped-whole a b (taken-both a b h (taken a h p) (taken b h q))
+unfolding overlaps
+both-taken a b h p q =
+    (pairs overlaps_field overlaps_address a b h).1 (each _ _ _ _ _ _ a b h pick-both address-both ((left a b h).0 p) ((right a b h).0 q))
+
+pub overlap-law : (a b : Matching) → IsNormal a → IsNormal b → (overlaps a b ≡ true) ↔ ShareHeader a b
+overlap-law a b p q = (to-shared a b p q, λ s. both-taken a b s.0 s.2 s.3)
+
+-- the law
+pub ruleset sharing = (overlap-law)

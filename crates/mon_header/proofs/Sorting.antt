@@ -88,3 +88,6 @@ same-by-numbers a b m n f g test p q am bn e af bg t = (
   λ (h : IsTrue test). key-same a b (sym am ∙ (e ∙ bn)) (sym af ∙ (t.0 h ∙ bg)) p q,
   λ (s : a ≡ b). t.1 (af ∙ (ap (λ (m : Matching). m.fields) s ∙ sym bg)),
 )
+
+-- the law, but for its last clause
+pub ruleset ordering = (before-self, before-more)

@@ -155,3 +155,6 @@ header-below bits = record {
   tp_src = number_at-below 232 16 bits;
   tp_dst = number_at-below 248 16 bits;
 }
+
+-- the law
+pub ruleset spelling = (header-long, header-read, header-written, header-below)

@@ -3,6 +3,7 @@ use Rattle.std.specs.Prelude.{ℕ, ◌^◌, ◌%◌, Bool, not, ◌==◌, nat_lt
 use Rattle.mon_header.specs.declared.class.Class.{Class}
 use Rattle.mon_header.specs.declared.class.Class.TheVariants.{Tcp, Udp, Icmp, OtherIpv4, Plain, Arp}
 use Rattle.mon_header.specs.declared.header.Header.{Header}
+use Rattle.mon_header.specs.Assigned.{LEAST_TYPE, IPV4_TYPE, ARP_TYPE, TAG_TYPE, SERVICE_TAG_TYPE, PAUSE_TYPE, SLOW_TYPE, ICMP_PROTOCOL, TCP_PROTOCOL, UDP_PROTOCOL, VLAN_IDS, UNTAGGED}
 
 -- the numbers fit their fields
 unfoldable pub fits : Header → Bool
@@ -20,9 +21,9 @@ fits h =
     && (nat_lt h.tp_src (2 ^ 16)
     && nat_lt h.tp_dst (2 ^ 16)))))))))))
 
--- a tag has a VLAN id of 12 bits and a priority of 3; an untagged frame has the id 0xffff and the priority 0
+-- a tag has a VLAN id of 12 bits and a priority of 3; an untagged frame has the priority 0
 unfoldable pub has_tag_fields : Header → Bool
-has_tag_fields h = (nat_lt h.dl_vlan 4096 || ((h.dl_vlan == 0xffff) && (h.dl_vlan_pcp == 0))) && nat_lt h.dl_vlan_pcp 8
+has_tag_fields h = (nat_lt h.dl_vlan VLAN_IDS || ((h.dl_vlan == UNTAGGED) && (h.dl_vlan_pcp == 0))) && nat_lt h.dl_vlan_pcp 8
 
 -- neither protocol, addresses nor ports
 unfoldable pub has_no_network_fields : Header → Bool
@@ -32,19 +33,20 @@ has_no_network_fields h =
 -- the type of a frame without a further header that a switch reads: no length, IPv4, ARP, tag, pause or slow protocol
 unfoldable pub is_plain_type : ℕ → Bool
 is_plain_type n =
-    nat_le 0x0600 n
-    && (not (n == 0x0800) && (not (n == 0x0806) && (not (n == 0x8100) && (not (n == 0x88a8) && (not (n == 0x8808) && not (n == 0x8809))))))
+    nat_le LEAST_TYPE n
+    && (not (n == IPV4_TYPE) && (not (n == ARP_TYPE) && (not (n == TAG_TYPE)
+    && (not (n == SERVICE_TAG_TYPE) && (not (n == PAUSE_TYPE) && not (n == SLOW_TYPE))))))
 
 -- what one class asks
 unfoldable pub has_form : Class → Header → Bool
-has_form Tcp h = (h.dl_type == 0x0800) && (h.nw_proto == 6)
-has_form Udp h = (h.dl_type == 0x0800) && (h.nw_proto == 17)
-has_form Icmp h = (h.dl_type == 0x0800) && ((h.nw_proto == 1) && (nat_lt h.tp_src 256 && nat_lt h.tp_dst 256))
+has_form Tcp h = (h.dl_type == IPV4_TYPE) && (h.nw_proto == TCP_PROTOCOL)
+has_form Udp h = (h.dl_type == IPV4_TYPE) && (h.nw_proto == UDP_PROTOCOL)
+has_form Icmp h = (h.dl_type == IPV4_TYPE) && ((h.nw_proto == ICMP_PROTOCOL) && (nat_lt h.tp_src 256 && nat_lt h.tp_dst 256))
 has_form OtherIpv4 h =
-    (h.dl_type == 0x0800)
-    && (not (h.nw_proto == 1) && (not (h.nw_proto == 6) && (not (h.nw_proto == 17) && ((h.tp_src == 0) && (h.tp_dst == 0)))))
+    (h.dl_type == IPV4_TYPE)
+    && (not (h.nw_proto == ICMP_PROTOCOL) && (not (h.nw_proto == TCP_PROTOCOL) && (not (h.nw_proto == UDP_PROTOCOL) && ((h.tp_src == 0) && (h.tp_dst == 0)))))
 has_form Plain h = is_plain_type h.dl_type && has_no_network_fields h
-has_form Arp h = (h.dl_type == 0x0806) && ((h.nw_tos == 0) && ((h.tp_src == 0) && (h.tp_dst == 0)))
+has_form Arp h = (h.dl_type == ARP_TYPE) && ((h.nw_tos == 0) && ((h.tp_src == 0) && (h.tp_dst == 0)))
 
 -- the header is in this class
 unfoldable pub is_in_class : Class → Header → Bool

@@ -1,8 +1,10 @@
+pub mod Assigned
 pub mod Wild
 pub mod Matching
 pub mod Order
 pub mod Laws
 pub mod Places
+pub mod ActionTypes
 pub mod Raw
 pub mod Actions
 pub mod Classes

@@ -2,6 +2,7 @@
 use Rattle.std.specs.Prelude.{◌≡◌, ℕ, ◌*◌, ◌/◌, ◌^◌, ◌<◌, ◌≤◌, max, Bool, ◌==◌, nat_le, not, ◌&&◌, ◌||◌, if◌then◌else◌}
 use Rattle.mon_header.specs.declared.header.Header.{Header}
 use Rattle.mon_header.specs.declared.wild.Wildcards.{Wildcards}
+use Rattle.mon_header.specs.Assigned.{PRIORITIES}
 use Rattle.mon_header.specs.Wild.{is_exact}
 
 -- a match: what is not compared, and the fields
@@ -97,38 +98,30 @@ matches m h =
     && (takes m.wild.tp_src m.fields.tp_src h.tp_src
     && takes m.wild.tp_dst m.fields.tp_dst h.tp_dst))))))))))
 
+-- a test of each plain field and of each address of two matches
+unfoldable pub each_field : (Bool → Bool → ℕ → ℕ → Bool) → (ℕ → ℕ → ℕ → ℕ → Bool) → Matching → Matching → Bool
+each_field plain address a b =
+    plain a.wild.in_port b.wild.in_port a.fields.in_port b.fields.in_port
+    && (plain a.wild.dl_src b.wild.dl_src a.fields.dl_src b.fields.dl_src
+    && (plain a.wild.dl_dst b.wild.dl_dst a.fields.dl_dst b.fields.dl_dst
+    && (plain a.wild.dl_vlan b.wild.dl_vlan a.fields.dl_vlan b.fields.dl_vlan
+    && (plain a.wild.dl_vlan_pcp b.wild.dl_vlan_pcp a.fields.dl_vlan_pcp b.fields.dl_vlan_pcp
+    && (plain a.wild.dl_type b.wild.dl_type a.fields.dl_type b.fields.dl_type
+    && (plain a.wild.nw_tos b.wild.nw_tos a.fields.nw_tos b.fields.nw_tos
+    && (plain a.wild.nw_proto b.wild.nw_proto a.fields.nw_proto b.fields.nw_proto
+    && (address a.wild.nw_src b.wild.nw_src a.fields.nw_src b.fields.nw_src
+    && (address a.wild.nw_dst b.wild.nw_dst a.fields.nw_dst b.fields.nw_dst
+    && (plain a.wild.tp_src b.wild.tp_src a.fields.tp_src b.fields.tp_src
+    && plain a.wild.tp_dst b.wild.tp_dst a.fields.tp_dst b.fields.tp_dst))))))))))
+
 -- the wide match takes each header that the narrow one takes
 unfoldable pub covers : Matching → Matching → Bool
-covers w n =
-    covers_field w.wild.in_port n.wild.in_port w.fields.in_port n.fields.in_port
-    && (covers_field w.wild.dl_src n.wild.dl_src w.fields.dl_src n.fields.dl_src
-    && (covers_field w.wild.dl_dst n.wild.dl_dst w.fields.dl_dst n.fields.dl_dst
-    && (covers_field w.wild.dl_vlan n.wild.dl_vlan w.fields.dl_vlan n.fields.dl_vlan
-    && (covers_field w.wild.dl_vlan_pcp n.wild.dl_vlan_pcp w.fields.dl_vlan_pcp n.fields.dl_vlan_pcp
-    && (covers_field w.wild.dl_type n.wild.dl_type w.fields.dl_type n.fields.dl_type
-    && (covers_field w.wild.nw_tos n.wild.nw_tos w.fields.nw_tos n.fields.nw_tos
-    && (covers_field w.wild.nw_proto n.wild.nw_proto w.fields.nw_proto n.fields.nw_proto
-    && (covers_address w.wild.nw_src n.wild.nw_src w.fields.nw_src n.fields.nw_src
-    && (covers_address w.wild.nw_dst n.wild.nw_dst w.fields.nw_dst n.fields.nw_dst
-    && (covers_field w.wild.tp_src n.wild.tp_src w.fields.tp_src n.fields.tp_src
-    && covers_field w.wild.tp_dst n.wild.tp_dst w.fields.tp_dst n.fields.tp_dst))))))))))
+covers wide narrow = each_field covers_field covers_address wide narrow
 
 -- some header is taken by both
 unfoldable pub overlaps : Matching → Matching → Bool
-overlaps a b =
-    overlaps_field a.wild.in_port b.wild.in_port a.fields.in_port b.fields.in_port
-    && (overlaps_field a.wild.dl_src b.wild.dl_src a.fields.dl_src b.fields.dl_src
-    && (overlaps_field a.wild.dl_dst b.wild.dl_dst a.fields.dl_dst b.fields.dl_dst
-    && (overlaps_field a.wild.dl_vlan b.wild.dl_vlan a.fields.dl_vlan b.fields.dl_vlan
-    && (overlaps_field a.wild.dl_vlan_pcp b.wild.dl_vlan_pcp a.fields.dl_vlan_pcp b.fields.dl_vlan_pcp
-    && (overlaps_field a.wild.dl_type b.wild.dl_type a.fields.dl_type b.fields.dl_type
-    && (overlaps_field a.wild.nw_tos b.wild.nw_tos a.fields.nw_tos b.fields.nw_tos
-    && (overlaps_field a.wild.nw_proto b.wild.nw_proto a.fields.nw_proto b.fields.nw_proto
-    && (overlaps_address a.wild.nw_src b.wild.nw_src a.fields.nw_src b.fields.nw_src
-    && (overlaps_address a.wild.nw_dst b.wild.nw_dst a.fields.nw_dst b.fields.nw_dst
-    && (overlaps_field a.wild.tp_src b.wild.tp_src a.fields.tp_src b.fields.tp_src
-    && overlaps_field a.wild.tp_dst b.wild.tp_dst a.fields.tp_dst b.fields.tp_dst))))))))))
+overlaps a b = each_field overlaps_field overlaps_address a b
 
 -- the rank of an entry: an entry without wildcards stands above every priority
 abbrev pub effective : Matching → ℕ → ℕ
-effective m priority = if is_exact m.wild then 65536 else priority
+effective m priority = if is_exact m.wild then PRIORITIES else priority

@@ -18,6 +18,16 @@ pub enum Class {
     Arp,
 }
 
+/// All classes. No header is in two of them.
+pub const CLASSES: [Class; 6] = [
+    Class::Tcp,
+    Class::Udp,
+    Class::Icmp,
+    Class::OtherIpv4,
+    Class::Plain,
+    Class::Arp,
+];
+
 /// Whether the addresses fit in 48 bits; the types of the other fields see to those.
 #[tactic(auto, unfolding(crate::specs::Classes::fits))]
 fn fits(h: Header) -> bool

@@ -33,3 +33,18 @@ pub const BLANK: Header = Header {
     tp_src: 0,
     tp_dst: 0,
 };
+
+/// A datagram from 10.0.0.1 to 10.0.0.2 with the tag 100, on port 1: a header for examples and tests.
+pub const DATAGRAM: Header = Header {
+    in_port: 1,
+    dl_src: 0x020000000001,
+    dl_dst: 0x020000000002,
+    dl_vlan: 100,
+    dl_type: 0x0800,
+    nw_proto: 17,
+    nw_src: 0x0a000001,
+    nw_dst: 0x0a000002,
+    tp_src: 1,
+    tp_dst: 2,
+    ..BLANK
+};

@@ -22,8 +22,8 @@ mod wild;
 
 pub use action::{Action, RawAction, same_action};
 pub use actions::{Actions, same_actions};
-pub use class::{Class, in_class, is_in_class};
-pub use header::{BLANK, Header};
+pub use class::{CLASSES, Class, in_class, is_in_class};
+pub use header::{BLANK, DATAGRAM, Header};
 pub use laws::{
     bits_are_the_header, classes_are_apart, covering_is_taking_all, normal_is_kept,
     order_is_strict_and_total, overlapping_is_a_shared_header,

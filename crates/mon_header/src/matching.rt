@@ -201,94 +201,64 @@ pub fn matches(m: &Match, h: &Header) -> bool
         && takes(w.tp_dst, u64::from(f.tp_dst), u64::from(h.tp_dst))
 }
 
+/// A test of each plain field and of each address of two matches.
+macro_rules! each_field {
+    ($plain:ident, $address:ident, $a:expr, $b:expr) => {{
+        let (v, w) = (&$a.wild, &$b.wild);
+        let (f, g) = (&$a.fields, &$b.fields);
+        $plain(
+            v.in_port,
+            w.in_port,
+            u64::from(f.in_port),
+            u64::from(g.in_port),
+        ) && $plain(v.dl_src, w.dl_src, f.dl_src, g.dl_src)
+            && $plain(v.dl_dst, w.dl_dst, f.dl_dst, g.dl_dst)
+            && $plain(
+                v.dl_vlan,
+                w.dl_vlan,
+                u64::from(f.dl_vlan),
+                u64::from(g.dl_vlan),
+            )
+            && $plain(
+                v.dl_vlan_pcp,
+                w.dl_vlan_pcp,
+                u64::from(f.dl_vlan_pcp),
+                u64::from(g.dl_vlan_pcp),
+            )
+            && $plain(
+                v.dl_type,
+                w.dl_type,
+                u64::from(f.dl_type),
+                u64::from(g.dl_type),
+            )
+            && $plain(v.nw_tos, w.nw_tos, u64::from(f.nw_tos), u64::from(g.nw_tos))
+            && $plain(
+                v.nw_proto,
+                w.nw_proto,
+                u64::from(f.nw_proto),
+                u64::from(g.nw_proto),
+            )
+            && $address(v.nw_src, w.nw_src, f.nw_src, g.nw_src)
+            && $address(v.nw_dst, w.nw_dst, f.nw_dst, g.nw_dst)
+            && $plain(v.tp_src, w.tp_src, u64::from(f.tp_src), u64::from(g.tp_src))
+            && $plain(v.tp_dst, w.tp_dst, u64::from(f.tp_dst), u64::from(g.tp_dst))
+    }};
+}
+
 /// Whether the wide match takes each header that the narrow one takes.
-#[tactic(auto, unfolding(crate::specs::Matching::covers))]
+#[tactic(auto, unfolding(crate::specs::Matching::covers, crate::specs::Matching::each_field))]
 pub fn covers(wide: &Match, narrow: &Match) -> bool
     ensures { result ≡ covers wide.now narrow.now }
 {
-    let (v, w) = (&wide.wild, &narrow.wild);
-    let (f, g) = (&wide.fields, &narrow.fields);
-    covers_field(
-        v.in_port,
-        w.in_port,
-        u64::from(f.in_port),
-        u64::from(g.in_port),
-    ) && covers_field(v.dl_src, w.dl_src, f.dl_src, g.dl_src)
-        && covers_field(v.dl_dst, w.dl_dst, f.dl_dst, g.dl_dst)
-        && covers_field(
-            v.dl_vlan,
-            w.dl_vlan,
-            u64::from(f.dl_vlan),
-            u64::from(g.dl_vlan),
-        )
-        && covers_field(
-            v.dl_vlan_pcp,
-            w.dl_vlan_pcp,
-            u64::from(f.dl_vlan_pcp),
-            u64::from(g.dl_vlan_pcp),
-        )
-        && covers_field(
-            v.dl_type,
-            w.dl_type,
-            u64::from(f.dl_type),
-            u64::from(g.dl_type),
-        )
-        && covers_field(v.nw_tos, w.nw_tos, u64::from(f.nw_tos), u64::from(g.nw_tos))
-        && covers_field(
-            v.nw_proto,
-            w.nw_proto,
-            u64::from(f.nw_proto),
-            u64::from(g.nw_proto),
-        )
-        && covers_address(v.nw_src, w.nw_src, f.nw_src, g.nw_src)
-        && covers_address(v.nw_dst, w.nw_dst, f.nw_dst, g.nw_dst)
-        && covers_field(v.tp_src, w.tp_src, u64::from(f.tp_src), u64::from(g.tp_src))
-        && covers_field(v.tp_dst, w.tp_dst, u64::from(f.tp_dst), u64::from(g.tp_dst))
+    each_field!(covers_field, covers_address, wide, narrow)
 }
 
 /// Whether some header is taken by both.
-#[tactic(auto, unfolding(crate::specs::Matching::overlaps))]
+#[tactic(auto, unfolding(crate::specs::Matching::overlaps, crate::specs::Matching::each_field))]
 pub fn overlaps(a: &Match, b: &Match) -> bool
     ensures { result ≡ overlaps a.now b.now }
 {
-    let (v, w) = (&a.wild, &b.wild);
-    let (f, g) = (&a.fields, &b.fields);
-    overlaps_field(
-        v.in_port,
-        w.in_port,
-        u64::from(f.in_port),
-        u64::from(g.in_port),
-    ) && overlaps_field(v.dl_src, w.dl_src, f.dl_src, g.dl_src)
-        && overlaps_field(v.dl_dst, w.dl_dst, f.dl_dst, g.dl_dst)
-        && overlaps_field(
-            v.dl_vlan,
-            w.dl_vlan,
-            u64::from(f.dl_vlan),
-            u64::from(g.dl_vlan),
-        )
-        && overlaps_field(
-            v.dl_vlan_pcp,
-            w.dl_vlan_pcp,
-            u64::from(f.dl_vlan_pcp),
-            u64::from(g.dl_vlan_pcp),
-        )
-        && overlaps_field(
-            v.dl_type,
-            w.dl_type,
-            u64::from(f.dl_type),
-            u64::from(g.dl_type),
-        )
-        && overlaps_field(v.nw_tos, w.nw_tos, u64::from(f.nw_tos), u64::from(g.nw_tos))
-        && overlaps_field(
-            v.nw_proto,
-            w.nw_proto,
-            u64::from(f.nw_proto),
-            u64::from(g.nw_proto),
-        )
-        && overlaps_address(v.nw_src, w.nw_src, f.nw_src, g.nw_src)
-        && overlaps_address(v.nw_dst, w.nw_dst, f.nw_dst, g.nw_dst)
-        && overlaps_field(v.tp_src, w.tp_src, u64::from(f.tp_src), u64::from(g.tp_src))
-        && overlaps_field(v.tp_dst, w.tp_dst, u64::from(f.tp_dst), u64::from(g.tp_dst))
+    each_field!(overlaps_field, overlaps_address, a, b)
 }
 
 /// The rank of an entry: 65536 where every field and every bit is compared, else its priority.

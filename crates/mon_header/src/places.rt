@@ -65,33 +65,14 @@ fn number(bits: &[bool]) -> u64
     n
 }
 
-fn u8_at(bits: &[bool; HEADER_BITS as usize], start: usize) -> u8
-    requires { start + 8 ≤ header_size }
-    ensures { result ≡ number_at start 8 bits.now }
+/// The number in the bits of a field.
+fn number_at(bits: &[bool; HEADER_BITS as usize], start: usize, count: usize) -> u64
+    requires within { start + count ≤ header_size }
+    requires few { count ≤ 64 }
+    ensures value { result ≡ number_at start count bits.now }
+    ensures small { result < 2 ^ count }
 {
-    number(&bits[start..start + 8]) as u8
-}
-
-fn u16_at(bits: &[bool; HEADER_BITS as usize], start: usize) -> u16
-    requires { start + 16 ≤ header_size }
-    ensures { result ≡ number_at start 16 bits.now }
-{
-    number(&bits[start..start + 16]) as u16
-}
-
-fn u32_at(bits: &[bool; HEADER_BITS as usize], start: usize) -> u32
-    requires { start + 32 ≤ header_size }
-    ensures { result ≡ number_at start 32 bits.now }
-{
-    number(&bits[start..start + 32]) as u32
-}
-
-fn u48_at(bits: &[bool; HEADER_BITS as usize], start: usize) -> u64
-    requires { start + 48 ≤ header_size }
-    ensures value { result ≡ number_at start 48 bits.now }
-    ensures small { result < 2 ^ 48 }
-{
-    number(&bits[start..start + 48])
+    number(&bits[start..start + count])
 }
 
 /// The header whose bits these are. Its numbers are within range.
@@ -101,17 +82,17 @@ pub fn from_bits(bits: &[bool; HEADER_BITS as usize]) -> Header
     ensures range { InRange result }
 {
     Header {
-        in_port: u16_at(bits, 0),
-        dl_src: u48_at(bits, 16),
-        dl_dst: u48_at(bits, 64),
-        dl_vlan: u16_at(bits, 112),
-        dl_vlan_pcp: u8_at(bits, 128),
-        dl_type: u16_at(bits, 136),
-        nw_tos: u8_at(bits, 152),
-        nw_proto: u8_at(bits, 160),
-        nw_src: u32_at(bits, 168),
-        nw_dst: u32_at(bits, 200),
-        tp_src: u16_at(bits, 232),
-        tp_dst: u16_at(bits, 248),
+        in_port: number_at(bits, 0, 16) as u16,
+        dl_src: number_at(bits, 16, 48),
+        dl_dst: number_at(bits, 64, 48),
+        dl_vlan: number_at(bits, 112, 16) as u16,
+        dl_vlan_pcp: number_at(bits, 128, 8) as u8,
+        dl_type: number_at(bits, 136, 16) as u16,
+        nw_tos: number_at(bits, 152, 8) as u8,
+        nw_proto: number_at(bits, 160, 8) as u8,
+        nw_src: number_at(bits, 168, 32) as u32,
+        nw_dst: number_at(bits, 200, 32) as u32,
+        tp_src: number_at(bits, 232, 16) as u16,
+        tp_dst: number_at(bits, 248, 16) as u16,
     }
 }

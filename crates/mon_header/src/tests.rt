@@ -1,35 +1,13 @@
 //! Matches, headers and actions whose answers were worked out by hand.
 
-ghost use Rattle.std.specs.Prelude.{◌≡◌};
-
 use crate::action::{Action, RawAction, same_action};
 use crate::actions::{Actions, same_actions};
-use crate::class::{Class, in_class, is_in_class};
-use crate::header::{BLANK, Header};
+use crate::class::{CLASSES, Class, in_class, is_in_class};
+use crate::header::{BLANK, DATAGRAM, Header};
 use crate::matching::{Match, covers, effective, matches, overlaps};
 use crate::order::{match_before, same_header, same_match};
 use crate::places::{bit, from_bits};
 use std::test::Fail;
-
-/// A datagram from 10.0.0.1 to 10.0.0.2 on port 1, with the tag 100.
-fn datagram() -> Header
-    ensures src { result.dl_src ≡ 0x020000000001 }
-    ensures dst { result.dl_dst ≡ 0x020000000002 }
-{
-    Header {
-        in_port: 1,
-        dl_src: 0x020000000001,
-        dl_dst: 0x020000000002,
-        dl_vlan: 100,
-        dl_type: 0x0800,
-        nw_proto: 17,
-        nw_src: 0x0a000001,
-        nw_dst: 0x0a000002,
-        tp_src: 1,
-        tp_dst: 2,
-        ..BLANK
-    }
-}
 
 /// A match of IPv4, with these wildcards and addresses.
 fn ipv4(wildcards: u32, nw_src: u32, nw_dst: u32) -> Match {
@@ -58,14 +36,14 @@ fn on_port(wildcards: u32, in_port: u16, dl_type: u16) -> Match {
 
 #[test]
 fn matches_cover_and_overlap_as_by_hand(rt: HostRuntime) {
-    let all = Match::normal(0xffffffff, datagram());
+    let all = Match::normal(0xffffffff, DATAGRAM);
     let near = ipv4(0x003220ef, 0, 0x0a000000);
     let any_ipv4 = ipv4(0x003820ef, 0, 0);
     let ipv4_on_one = on_port(0x003820ee, 1, 0x0800);
     let from_ten = ipv4(0x003818ef, 0x0a000000, 0);
     let to_ten = ipv4(0x003620ef, 0, 0x0a000000);
     let on_one = on_port(0x003820fe, 1, 0);
-    let exact = Match::normal(0, datagram());
+    let exact = Match::normal(0, DATAGRAM);
     let beside = ipv4(0x003220ef, 0, 0x0a000100);
     let on_two = on_port(0x003820fe, 2, 0);
     let table = [
@@ -101,13 +79,7 @@ fn a_match_takes_headers_by_their_prefix(rt: HostRuntime) {
     ];
     for (nw_dst, taken) in cases {
         assert!(rt;
-            matches(
-                &near,
-                &Header {
-                    nw_dst,
-                    ..datagram()
-                }
-            ) == taken,
+            matches(&near, &Header { nw_dst, ..DATAGRAM }) == taken,
             "{nw_dst}"
         );
     }
@@ -116,13 +88,13 @@ fn a_match_takes_headers_by_their_prefix(rt: HostRuntime) {
             &near,
             &Header {
                 dl_type: 0x0806,
-                ..datagram()
+                ..DATAGRAM
             }
         )
     );
     assert!(rt; effective(&near, 100) == 100);
-    assert!(rt; effective(&Match::normal(0, datagram()), 0) == 65536);
-    assert!(rt; effective(&Match::normal(1, datagram()), 65535) == 65535);
+    assert!(rt; effective(&Match::normal(0, DATAGRAM), 0) == 65536);
+    assert!(rt; effective(&Match::normal(1, DATAGRAM), 65535) == 65535);
 }
 
 #[test]
@@ -152,7 +124,7 @@ fn bits_stand_at_their_places(rt: HostRuntime) {
 
 #[test]
 fn headers_are_in_their_classes(rt: HostRuntime) {
-    let udp = datagram();
+    let udp = DATAGRAM;
     let plain = Header {
         dl_src: 1,
         dl_vlan: 0xffff,
@@ -222,14 +194,7 @@ fn headers_are_in_their_classes(rt: HostRuntime) {
     ];
     for (i, (h, class)) in cases.iter().enumerate() {
         assert!(rt; in_class(h) == class.is_some(), "{i}");
-        for other in [
-            Class::Tcp,
-            Class::Udp,
-            Class::Icmp,
-            Class::OtherIpv4,
-            Class::Plain,
-            Class::Arp,
-        ] {
+        for other in CLASSES {
             assert!(rt; is_in_class(other, h) == (*class == Some(other)), "{i}");
         }
     }

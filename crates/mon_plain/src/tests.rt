@@ -1,37 +1,16 @@
 //! Small formulas with known answers.
 
-ghost use Rattle.std.specs.Prelude.{◌≡◌, IfOk};
-ghost use Rattle.mon_cnf.specs.Truth.{Within};
-
 use super::*;
-use mon_cnf::{Clause, Formula, Lit, holds};
+use mon_cnf::{Clause, Formula, Lit, clause_of, holds};
 use mon_refute::{Hints, Log, LogLine, accepts, read_log, write_log};
 use std::alloc::Global;
 use std::test::*;
-
-/// The literals that are written as a variable's number plus one, negative where the literal is. Those of no variable
-/// are left out.
-fn clause(alloc: Global, vars: u32, literals: &[i32]) -> Result<Clause, OutOfMemory>
-    ensures { IfOk result (Within vars) }
-{
-    let mut clause = Clause::new(alloc);
-    for literal in literals {
-        let var = literal.unsigned_abs().saturating_sub(1);
-        if var < vars {
-            clause.push(Lit {
-                var,
-                positive: *literal > 0,
-            })?;
-        }
-    }
-    Ok(clause)
-}
 
 fn formula(alloc: Global, vars: u32, clauses: &[&[i32]]) -> Result<Formula, OutOfMemory> {
     let mut f = Formula::new(alloc, vars);
     for literals in clauses {
         let vars = f.vars();
-        f.push(clause(alloc, vars, literals)?)?;
+        f.push(clause_of(alloc, vars, literals)?)?;
     }
     Ok(f)
 }

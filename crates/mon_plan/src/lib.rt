@@ -24,6 +24,6 @@ pub use mon_certificate::{Certificate, Certificates};
 pub use mon_certificate_file::{read_certificates, write_certificates};
 pub use mon_list::OutOfMemory;
 pub use mon_table_file::{generate, read_table};
-pub use mon_text::{FileFault, TextFault};
+pub use mon_text::FileFault;
 pub use plan::plan_table;
 pub use summary::Summary;

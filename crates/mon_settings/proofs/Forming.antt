@@ -12,7 +12,7 @@ use Rattle.mon_topo.specs.Links.{wrong, first_wrong, or_else}
 use Rattle.mon_settings.specs.declared.address.Address.{Address}
 use Rattle.mon_settings.specs.Texts.{datapath_of, address_of}
 use Rattle.mon_settings.specs.Members.{or_bad, and_then, element_path, number_in, number_member, address_member}
-use Rattle.mon_settings.specs.Lists.{count, counted, elements, datapath_in, following, switches_from, tags_from, link_with, link_parts, link_of, sound, links_from}
+use Rattle.mon_settings.specs.Lists.{count, counted, elements, datapath_in, following, rising, link_with, link_parts, link_of, sound, links_from}
 use Rattle.mon_settings.specs.Form.{IsNumber, IsAddress, IsDatapath, IsLink, Each, Has}
 use Rattle.mon_settings.proofs.Stepping.{stepped, step, and_then-same, chosen, choose, given}
 
@@ -170,13 +170,6 @@ follow : (low high : ℕ) (before : List ℕ) (n : ℕ) → next low before ≤ 
 unfolding following
 follow low high before n a b = ap (λ (t : Bool). if t then Some n else None) (within-passes (next low before) high n a b)
 
--- what a list of such numbers is, read by one function
-abbrev pub rising : List ℕ → ℕ → ℕ → (Data → Option ℕ) → List ℕ → ℕ → Items → Result (List ℕ) (List ℕ)
-rising name low high f before place no_items = Ok before
-rising name low high f before place (item d ds) =
-    and_then (or_bad (element_path name place) (option_and_then (following low high before) (f d)))
-    (λ n. rising name low high f (before ++ n ∷ []) (suc place) ds)
-
 abbrev pub IsRising : ℕ → ℕ → (Data → Option ℕ) → List ℕ → Items → List ℕ → Type 0
 IsRising low high f before ds out = (ns : List ℕ) × (out ≡ before ++ ns) × Each (λ d n. f d ≡ Some n) ds ns × Ascends (next low before) high ns
 
@@ -205,14 +198,6 @@ form-rising name low high f before place (item d ds) (n ∷ ns) e a =
     (ap (or_bad (element_path name place)) (ap (option_and_then (following low high before)) e.0 ∙ follow low high before n a.0 a.1))
     (form-rising name low high f (before ++ n ∷ []) (suc place) ds ns e.1 (subst (λ (k : ℕ). Ascends k high ns) (sym (next-more low before n)) a.2)
     ∙ ap (λ (xs : List ℕ). Ok xs) (append_assoc before (n ∷ []) ns))
-
-pub switches-rising : (before : List ℕ) (place : ℕ) (ds : Items) → switches_from before place ds ≡ rising (codes "switches") 0 18446744073709551615 datapath_in before place ds
-switches-rising before place no_items = refl
-switches-rising before place (item d ds) = and_then-same _ _ _ (λ (s : ℕ). switches-rising (before ++ s ∷ []) (suc place) ds)
-
-pub tags-rising : (before : List ℕ) (place : ℕ) (ds : Items) → tags_from before place ds ≡ rising (codes "tags") 1 4094 (number_in 1 4094) before place ds
-tags-rising before place no_items = refl
-tags-rising before place (item d ds) = and_then-same _ _ _ (λ (s : ℕ). tags-rising (before ++ s ∷ []) (suc place) ds)
 
 -- links
 

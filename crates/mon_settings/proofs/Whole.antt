@@ -23,7 +23,7 @@ use Rattle.mon_settings.specs.Names.{is_known, unknown, or_unknown, all_known}
 use Rattle.mon_settings.specs.Judged.{peers, network, pace, settings_with, members_of, if_object, of_value, judged, Holds, Says}
 use Rattle.mon_settings.specs.Form.{IsNumber, IsAddress, IsDatapath, IsLink, Has, HasEach, AreKnown, IsSettings, IsSettingsText, IsRefused}
 use Rattle.mon_settings.proofs.Stepping.{stepped, step, given}
-use Rattle.mon_settings.proofs.Forming.{number-form, form-number, datapath-form, form-datapath, number_member-form, form-number_member, address_member-form, form-address_member, each-count, each-map, elements-form, form-elements, rising-form, form-rising, switches-rising, tags-rising, links-form, form-links}
+use Rattle.mon_settings.proofs.Forming.{number-form, form-number, datapath-form, form-datapath, number_member-form, form-number_member, address_member-form, form-address_member, each-count, each-map, elements-form, form-elements, rising-form, form-rising, links-form, form-links}
 
 -- the value, or another where there is none
 abbrev value_or : {A : Type 0} → A → Result A (List ℕ) → A
@@ -125,7 +125,7 @@ switches-form : (d : Data) (ss : List ℕ) → switches d ≡ Ok ss → AreSwitc
 switches-form d ss is =
     let s = stepped _ _ ss is in
     let e = elements-form (codes "switches") 1 64 d s.value (given (codes "switches") _ s.value s.first) in
-    let r = rising-form (codes "switches") 0 18446744073709551615 datapath_in [] 0 s.value ss (sym (switches-rising [] 0 s.value) ∙ s.second) in
+    let r = rising-form (codes "switches") 0 18446744073709551615 datapath_in [] 0 s.value ss s.second in
     let size = each-count _ s.value r.0 r.2 in
     let has : HasEach (codes "switches") 1 64 IsDatapath d r.0 =
     (s.value, e.0, subst (λ (k : ℕ). 1 ≤ k) size e.1, subst (λ (k : ℕ). k ≤ 64) size e.2, each-map _ IsDatapath s.value r.0 datapath-form r.2) in
@@ -137,8 +137,7 @@ form-switches d ss are =
     let size = sym (each-count IsDatapath h.0 ss h.4) in
     step _ _ h.0 ss
     (ap (or_bad (codes "switches")) (form-elements (codes "switches") 1 64 d h.0 h.1 (subst (λ (k : ℕ). 1 ≤ k) size h.2) (subst (λ (k : ℕ). k ≤ 64) size h.3)))
-    (switches-rising [] 0 h.0
-    ∙ form-rising (codes "switches") 0 18446744073709551615 datapath_in [] 0 h.0 ss (each-map IsDatapath _ h.0 ss form-datapath h.4) are.1)
+    (form-rising (codes "switches") 0 18446744073709551615 datapath_in [] 0 h.0 ss (each-map IsDatapath _ h.0 ss form-datapath h.4) are.1)
 
 abbrev pub AreTags : Data → List ℕ → Type 0
 AreTags d ts = HasEach (codes "tags") 1 64 (IsNumber 1 4094) d ts × AreVids ts
@@ -147,7 +146,7 @@ tags-form : (d : Data) (ts : List ℕ) → tags d ≡ Ok ts → AreTags d ts
 tags-form d ts is =
     let s = stepped _ _ ts is in
     let e = elements-form (codes "tags") 1 64 d s.value (given (codes "tags") _ s.value s.first) in
-    let r = rising-form (codes "tags") 1 4094 (number_in 1 4094) [] 0 s.value ts (sym (tags-rising [] 0 s.value) ∙ s.second) in
+    let r = rising-form (codes "tags") 1 4094 (number_in 1 4094) [] 0 s.value ts s.second in
     let size = each-count _ s.value r.0 r.2 in
     let has : HasEach (codes "tags") 1 64 (IsNumber 1 4094) d r.0 =
     (s.value, e.0, subst (λ (k : ℕ). 1 ≤ k) size e.1, subst (λ (k : ℕ). k ≤ 64) size e.2, each-map _ (IsNumber 1 4094) s.value r.0 (number-form 1 4094) r.2) in
@@ -159,8 +158,7 @@ form-tags d ts are =
     let size = sym (each-count (IsNumber 1 4094) h.0 ts h.4) in
     step _ _ h.0 ts
     (ap (or_bad (codes "tags")) (form-elements (codes "tags") 1 64 d h.0 h.1 (subst (λ (k : ℕ). 1 ≤ k) size h.2) (subst (λ (k : ℕ). k ≤ 64) size h.3)))
-    (tags-rising [] 0 h.0
-    ∙ form-rising (codes "tags") 1 4094 (number_in 1 4094) [] 0 h.0 ts (each-map (IsNumber 1 4094) _ h.0 ts (form-number 1 4094) h.4) are.1)
+    (form-rising (codes "tags") 1 4094 (number_in 1 4094) [] 0 h.0 ts (each-map (IsNumber 1 4094) _ h.0 ts (form-number 1 4094) h.4) are.1)
 
 abbrev pub HasLinks : List ℕ → Data → List Link → Type 0
 HasLinks ss d ls = HasEach (codes "links") 0 1024 IsLink d ls × (first_wrong ss [] 0 ls ≡ None)

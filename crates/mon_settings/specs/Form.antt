@@ -6,7 +6,8 @@ use Rattle.serde_json.specs.Find.{get}
 use Rattle.serde_json.specs.Read.{read}
 use Rattle.mon_topo.specs.declared.topology.Link.{Link}
 use Rattle.mon_topo.specs.declared.tagged.Tagged.{Tagged}
-use Rattle.mon_topo.specs.Ascending.{AreVids, AreDatapaths}
+use Rattle.mon_header.specs.Assigned.{LAST_PORT}
+use Rattle.mon_topo.specs.Ascending.{LAST_VID, AreVids, AreDatapaths}
 use Rattle.mon_topo.specs.Links.{first_wrong}
 use Rattle.mon_topo.specs.Colour.{coloured}
 use Rattle.mon_settings.specs.declared.address.Address.{Address}
@@ -36,9 +37,9 @@ pub record IsLink (d : Data) (l : Link) : Type 0 where
   pub second_port : Data
   pub four : d ≡ array (item first (item first_port (item second (item second_port no_items))))
   pub a : IsDatapath first l.a
-  pub a_port : IsNumber 1 65280 first_port l.a_port
+  pub a_port : IsNumber 1 LAST_PORT first_port l.a_port
   pub b : IsDatapath second l.b
-  pub b_port : IsNumber 1 65280 second_port l.b_port
+  pub b_port : IsNumber 1 LAST_PORT second_port l.b_port
 
 -- as many elements as things, and each is in this form the one at its place
 abbrev pub Each : {X : Type 0} → (Data → X → Type 0) → Items → List X → Type 0
@@ -77,7 +78,7 @@ pub record IsSettings (d : Data) (s : Settings) : Type 0 where
   pub ascending : AreDatapaths s.topology.switches
   pub links : HasEach (codes "links") 0 1024 IsLink d s.topology.links
   pub sound : first_wrong s.topology.switches [] 0 s.topology.links ≡ None
-  pub tags : HasEach (codes "tags") 1 64 (IsNumber 1 4094) d s.tags
+  pub tags : HasEach (codes "tags") 1 64 (IsNumber 1 LAST_VID) d s.tags
   pub vids : AreVids s.tags
   pub tagged : (given : List Tagged) × (coloured s.topology s.tags ≡ Ok given)
   pub tick_ms : Has (codes "tick_ms") (IsNumber 1 60000) d s.tick_ms

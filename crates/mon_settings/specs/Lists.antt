@@ -6,7 +6,8 @@ use Rattle.mon_topo.specs.declared.topology.Link.{Link}
 use Rattle.mon_topo.specs.declared.topology.Topology.{Topology}
 use Rattle.mon_topo.specs.declared.fault.TopoFault.{TopoFault}
 use Rattle.mon_topo.specs.declared.tagged.Tagged.{Tagged}
-use Rattle.mon_topo.specs.Ascending.{may_follow}
+use Rattle.mon_header.specs.Assigned.{LAST_PORT}
+use Rattle.mon_topo.specs.Ascending.{LAST_VID, may_follow}
 use Rattle.mon_topo.specs.Links.{wrong}
 use Rattle.mon_topo.specs.Colour.{coloured}
 use Rattle.mon_settings.specs.Texts.{datapath_of}
@@ -33,24 +34,28 @@ datapath_in d = option_and_then datapath_of (as_str d)
 unfoldable pub following : ℕ → ℕ → List ℕ → ℕ → Option ℕ
 following low high before n = if may_follow low high before n then Some n else None
 
+-- numbers from low to high, each above those before, or the path of the first element that isn't one
+abbrev pub rising : List ℕ → ℕ → ℕ → (Data → Option ℕ) → List ℕ → ℕ → Items → Result (List ℕ) (List ℕ)
+rising name low high read before place no_items = Ok before
+rising name low high read before place (item d ds) =
+    and_then (or_bad (element_path name place) (option_and_then (following low high before) (read d)))
+    (λ n. rising name low high read (before ++ n ∷ []) (suc place) ds)
+
 -- the next switch: a datapath id above those before
 abbrev pub next_switch : List ℕ → Data → Option ℕ
 next_switch before d = option_and_then (following 0 (2 ^ 64 - 1) before) (datapath_in d)
 
--- switches, each above those before, or the path of the first wrong one
+-- switches behind those before
 abbrev pub switches_from : List ℕ → ℕ → Items → Result (List ℕ) (List ℕ)
-switches_from before place no_items = Ok before
-switches_from before place (item d ds) =
-    and_then (or_bad (element_path (codes "switches") place) (next_switch before d))
-    (λ s. switches_from (before ++ s ∷ []) (suc place) ds)
+switches_from = rising (codes "switches") 0 (2 ^ 64 - 1) datapath_in
 
 -- the switches: 1 to 64
 abbrev pub switches : Data → Result (List ℕ) (List ℕ)
 switches d = and_then (or_bad (codes "switches") (elements (codes "switches") 1 64 d)) (switches_from [] 0)
 
--- the port at a place of an array: 1 to 65280, the standard's greatest port of a switch
+-- the port at a place of an array: one that a switch may have
 abbrev pub port_at : ℕ → Data → Option ℕ
-port_at place d = option_and_then (number_in 1 65280) (at place d)
+port_at place d = option_and_then (number_in 1 LAST_PORT) (at place d)
 
 -- the datapath id at a place of an array
 abbrev pub datapath_at : ℕ → Data → Option ℕ
@@ -97,16 +102,13 @@ links_from switches before place (item d ds) =
 abbrev pub links : List ℕ → Data → Result (List Link) (List ℕ)
 links switches d = and_then (or_bad (codes "links") (elements (codes "links") 0 1024 d)) (links_from switches [] 0)
 
--- the next tag: a number of 1 to 4094 above those before
+-- the next tag: a VLAN id above those before
 abbrev pub next_tag : List ℕ → Data → Option ℕ
-next_tag before d = option_and_then (following 1 4094 before) (number_in 1 4094 d)
+next_tag before d = option_and_then (following 1 LAST_VID before) (number_in 1 LAST_VID d)
 
--- tags, each above those before, or the path of the first wrong one
+-- tags behind those before
 abbrev pub tags_from : List ℕ → ℕ → Items → Result (List ℕ) (List ℕ)
-tags_from before place no_items = Ok before
-tags_from before place (item d ds) =
-    and_then (or_bad (element_path (codes "tags") place) (next_tag before d))
-    (λ tag. tags_from (before ++ tag ∷ []) (suc place) ds)
+tags_from = rising (codes "tags") 1 LAST_VID (number_in 1 LAST_VID)
 
 -- the tags: 1 to 64
 abbrev pub tags : Data → Result (List ℕ) (List ℕ)

@@ -2,7 +2,7 @@
 
 ghost use Rattle.std.specs.Prelude.{◌≡◌, ◌≤◌, ◌-◌, ◌^◌, [], codes, option_map, IfSome, IsTrue};
 ghost use Rattle.serde_json.specs.View.{view, items_view};
-ghost use Rattle.mon_topo.specs.Ascending.{may_follow};
+ghost use Rattle.mon_topo.specs.Ascending.{LAST_VID, may_follow};
 ghost use Rattle.mon_settings.specs.Members.{number_in};
 ghost use Rattle.mon_settings.specs.Lists.{count, counted, elements, datapath_in, following, next_switch, switches_from, switches, port_at, datapath_at, link_parts, four, link_of, sound, next_link, links_from, links, next_tag, tags_from, tags, enough};
 ghost use Rattle.mon_settings.specs.Faults.{Gives};
@@ -163,7 +163,7 @@ pub fn links(alloc: Global, switches: &[u64], value: &Value) -> Result<Links, Se
 #[tactic(auto, unfolding(crate::specs::Lists::following))]
 fn next_tag(before: &Vids, value: &Value) -> Option<u16>
     ensures value { result ≡ next_tag before.now (view value.now) }
-    ensures fits { IfSome result (λ tag. IsTrue (may_follow 1 4094 before.now tag)) }
+    ensures fits { IfSome result (λ tag. IsTrue (may_follow 1 LAST_VID before.now tag)) }
 {
     let tag = number_in(value, 1, 4094)? as u16;
     if before.accepts(tag) { Some(tag) } else { None }

@@ -1,17 +1,19 @@
 -- Rules no two of which have one identity fill a table without replacing any, and are all that it has.
-use Rattle.std.proofs.Common.{◌≡◌, ◌↔◌, ◌⊎◌, ⊎_elim, inl, inr, Bool, true, false, cond, refl, sym, ap, subst, ◌∙◌, List, [], ◌∷◌, Some, None}
+use Rattle.std.proofs.Common.{◌≡◌, ◌↔◌, ◌⊎◌, ⊎_elim, inl, inr, suc, Bool, true, false, not, cond, refl, sym, ap, subst, ◌∙◌, List, [], ◌∷◌, ◌++◌, length, Some, None}
 use Rattle.std.specs.List.{find}
 use Rattle.mon_list.specs.Has.{Has}
 use Rattle.mon_table.specs.declared.rule.Rule.{Rule}
 use Rattle.mon_table.specs.declared.edit.Edit.TheVariants.{Put}
-use Rattle.mon_table.specs.Rules.{Identity, identity_of, same_identity}
-use Rattle.mon_table.specs.Tables.{AllNormal, IsTable, rule_of, with_rule}
+use Rattle.mon_table.specs.Rules.{Identity, identity_of, same_identity, comes_before}
+use Rattle.mon_table.specs.Tables.{AllNormal, IsTable, rule_of, without, placed, with_rule}
 use Rattle.mon_table.specs.Edits.{after}
 use Rattle.mon_table.proofs.Listing.{all-has, has-all}
 use Rattle.mon_table.proofs.Identities.{other-turned}
 use Rattle.mon_table.proofs.Members.{after-members, members-after, after-table, one-list}
+use Rattle.mon_text.proofs.Growing.{all_push}
 use Rattle.mon_table_file.specs.Filling.{AreApart, IsTableOf}
 use Rattle.mon_table_file.specs.Generator.{added}
+use Rattle.mon_table_file.proofs.SoFar.{all_next}
 
 -- each rule is added where none of its identity stands
 abbrev pub Fresh : List Rule → List Rule → Type 0
@@ -117,10 +119,71 @@ has-table rules normal apart = table-from rules [] rules (record { order = tt; n
 pub one-table : (rules t u : List Rule) → IsTableOf rules t → IsTableOf rules u → t ≡ u
 one-table rules t u a b = one-list t u a.table.order b.table.order (λ r i. (b.members r).1 ((a.members r).0 i)) (λ r i. (a.members r).1 ((b.members r).0 i))
 
--- a rule that is added where none of its identity stands
-pub not_fresh : (t rs : List Rule) (r old : Rule) → Some old ≡ rule_of (identity_of r) t → Fresh t (r ∷ rs) → ⊥
-not_fresh t rs r old e fresh = let f : Some old ≡ None = e ∙ fresh.0 in cc
-
+-- one rule more
 pub put-added : (t new : List Rule) (r : Rule) → new ≡ with_rule r t → new ≡ added t r
 unfolding after
 put-added t new r e = e
+
+push-has : (rules : List Rule) (r s : Rule) → Has (rules ++ r ∷ []) s → Has rules s ⊎ (s ≡ r)
+push-has [] r s has = ⊎_elim (λ (is : s ≡ r). inr is) (λ none. absurd none) has
+push-has (x ∷ rules) r s has = ⊎_elim (λ (is : s ≡ x). inl (inl is)) (λ more. ⊎_elim (λ old. inl (inr old)) (λ (is : s ≡ r). inr is) (push-has rules r s more)) has
+
+has-push : (rules : List Rule) (r s : Rule) → Has rules s → Has (rules ++ r ∷ []) s
+has-push [] r s has = absurd has
+has-push (x ∷ rules) r s has = ⊎_elim (λ (is : s ≡ x). inl is) (λ more. inr (has-push rules r s more)) has
+
+has-last : (rules : List Rule) (r : Rule) → Has (rules ++ r ∷ []) r
+has-last [] r = inl refl
+has-last (x ∷ rules) r = inr (has-last rules r)
+
+-- the table has just these rules
+abbrev pub Fills : List Rule → List Rule → Type 0
+Fills rules t = (s : Rule) → Has t s ↔ Has rules s
+
+pub fills-more : (rules t new : List Rule) (r : Rule) → rule_of (identity_of r) t ≡ None → new ≡ added t r → Fills rules t → Fills (rules ++ r ∷ []) new
+fills-more rules t new r none e fills s = (
+  λ h. ⊎_elim
+      (λ (is : s ≡ r). subst (Has (rules ++ r ∷ [])) (sym is) (has-last rules r))
+      (λ i. has-push rules r s ((fills s).0 i))
+      (added-has t r s (subst (λ (u : List Rule). Has u s) e h)),
+  λ h. subst (λ (u : List Rule). Has u s) (sym e) (⊎_elim
+      (λ i. let old = (fills s).1 i in kept-added t r s old (differs-from (identity_of r) t none s old))
+      (λ (is : s ≡ r). subst (Has (added t r)) (sym is) (has-added t r))
+      (push-has rules r s h)),
+)
+
+apart-join : (rules : List Rule) (r : Rule) → AreApart rules → ((s : Rule) → Has rules s → same_identity (identity_of r) (identity_of s) ≡ false) → AreApart (rules ++ r ∷ [])
+apart-join [] r apart f = (tt, tt)
+apart-join (x ∷ rules) r apart f = (all_push (λ s. same_identity (identity_of s) (identity_of x) ≡ false) rules r apart.0 (f x (inl refl)), apart-join rules r apart.1 (λ s has. f s (inr has)))
+
+pub apart-more : (rules t : List Rule) (r : Rule) → rule_of (identity_of r) t ≡ None → Fills rules t → AreApart rules → AreApart (rules ++ r ∷ [])
+apart-more rules t r none fills apart = apart-join rules r apart (λ s has. other-turned (identity_of s) (identity_of r) (differs-from (identity_of r) t none s ((fills s).1 has)))
+
+apart-last : (rules : List Rule) (r s : Rule) → AreApart (rules ++ r ∷ []) → Has rules s → same_identity (identity_of r) (identity_of s) ≡ false
+apart-last [] r s apart has = absurd has
+apart-last (x ∷ rules) r s apart has = ⊎_elim
+    (λ (is : s ≡ x). subst (λ (y : Rule). same_identity (identity_of r) (identity_of y) ≡ false) (sym is) (all_next (λ y. same_identity (identity_of y) (identity_of x) ≡ false) rules r [] apart.0))
+    (λ more. apart-last rules r s apart.1 more)
+    has
+
+pub not-apart : (rules t : List Rule) (r old : Rule) → Some old ≡ rule_of (identity_of r) t → Fills rules t → AreApart (rules ++ r ∷ []) → ⊥
+not-apart rules t r old e fills apart =
+    let none = none-stands (identity_of r) t (λ s has. other-turned (identity_of r) (identity_of s) (apart-last rules r s apart ((fills s).0 has))) in
+    let f : Some old ≡ None = e ∙ none in cc
+
+without-none : (i : Identity) (t : List Rule) → ((s : Rule) → Has t s → same_identity (identity_of s) i ≡ false) → without i t ≡ t
+without-none i [] f = refl
+without-none i (s ∷ t) f =
+    ap (λ (b : Bool). cond (not b) (s ∷ without i t) (without i t)) (f s (inl refl)) ∙ ap (λ (u : List Rule). s ∷ u) (without-none i t (λ r has. f r (inr has)))
+
+length-placed : (r : Rule) (t : List Rule) → length (placed r t) ≡ suc (length t)
+length-placed r [] = refl
+length-placed r (s ∷ t) =
+    elim (comes_before (identity_of s) (identity_of r)) as (λ b. length (cond b (s ∷ placed r t) (r ∷ s ∷ t)) ≡ suc (suc (length t))) [
+      | true ↦ ap suc (length-placed r t)
+      | false ↦ refl
+    ]
+
+pub length-more : (t new : List Rule) (r : Rule) → rule_of (identity_of r) t ≡ None → new ≡ with_rule r t → length new ≡ suc (length t)
+length-more t new r none e =
+    ap length e ∙ ap (λ (u : List Rule). length (placed r u)) (without-none (identity_of r) t (λ s has. differs-from (identity_of r) t none s has)) ∙ length-placed r t

@@ -1,8 +1,12 @@
 pub mod Apart
 pub mod Deciding
+pub mod Faulting
+pub mod Heads
+pub mod Leaving
 pub mod LineReaders
+pub mod Linking
 pub mod Making
-pub mod Sheeting
+pub mod Ruling
 pub mod SoFar
 pub mod Tagging
-pub mod Leaving
+pub mod TagLines

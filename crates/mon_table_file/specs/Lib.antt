@@ -2,5 +2,5 @@ pub mod Filling
 pub mod Generator
 pub mod Lines
 pub mod Reading
-pub mod Sheets
+pub mod Sections
 pub mod TableFile

@@ -1,5 +1,5 @@
--- The lines of a table file. Words are parted by one space, and a line feed ends each line.
-use Rattle.std.specs.Prelude.{◌≡◌, ℕ, ◌<◌, ◌≤◌, ◌^◌, Bool, nat_le, ◌&&◌, is_ok, true, false, List, [], ◌++◌, length, codes, decimal, Result, Ok, Err}
+-- The lines of a table file, in its two versions. Words are parted by one space, and a line feed ends each line.
+use Rattle.std.specs.Prelude.{◌≡◌, ℕ, ◌<◌, ◌≤◌, ◌^◌, Bool, nat_le, ◌&&◌, ◌||◌, not, is_ok, true, false, List, [], ◌++◌, length, codes, decimal, Result, Ok, Err}
 use Rattle.std.specs.List.{flat_map}
 use Rattle.std.specs.Int.{w64, to_be_bytes}
 use Rattle.mon_text.specs.Hex.{hex, AllBytes, AreBytes}
@@ -15,8 +15,11 @@ use Rattle.mon_rule_line.specs.RuleWords.{rule_words}
 abbrev pub datapath_text : ℕ → List ℕ
 datapath_text datapath = hex (to_be_bytes w64 datapath)
 
-abbrev pub first_line : List ℕ
-first_line = codes "monocle-table 1" ++ feed
+-- the name of the form and the version: the first, or the second, in which the line of a rule may say that a timeout may
+-- take it
+abbrev pub first_line : Bool → List ℕ
+first_line false = codes "monocle-table 1" ++ feed
+first_line true = codes "monocle-table 2" ++ feed
 
 -- the switch and its tag
 abbrev pub switch_line : ℕ → ℕ → List ℕ
@@ -53,15 +56,17 @@ pub record FitsNear (n : Near) : Type 0 where
   pub far_port : IsPort n.far_port
   pub tag : IsTag n.tag
 
--- what the line of a rule says: its priority, the 40 bytes of its match, and the bytes of its actions
+-- what the line of a rule says: its priority, the 40 bytes of its match, the bytes of its actions, and whether a timeout
+-- may take it
 pub record Row : Type 0 where
   pub priority : ℕ
   pub matching : List ℕ
   pub actions : List ℕ
+  pub unsure : Bool
 
 -- the line of a rule
 abbrev pub rule_line : Row → List ℕ
-rule_line r = codes "rule " ++ rule_words r.priority r.matching r.actions false
+rule_line r = codes "rule " ++ rule_words r.priority r.matching r.actions r.unsure
 
 -- whole actions (OpenFlow 1.0.0, flow action structures), at most 512 bytes of them
 abbrev pub are_actions : List ℕ → Bool
@@ -76,10 +81,17 @@ pub record FitsRow (r : Row) : Type 0 where
   pub matching : AreBytes 40 r.matching
   pub actions : AreActions r.actions
 
+-- a rule that a timeout may take stands in a file of the second version alone
+abbrev pub may_stand : Bool → Bool → Bool
+may_stand second unsure = second || not unsure
+
+abbrev pub MayStand : Bool → Row → Type 0
+MayStand second r = may_stand second r.unsure ≡ true
+
 abbrev pub actions_given : Result (List Action) ℕ → List Action
 actions_given (Ok actions) = actions
 actions_given (Err place) = []
 
 -- the rule that a row says; its match is in the normalised form
 abbrev pub rule_given : Row → Rule
-rule_given r = record { matching = match_of r.matching; priority = r.priority; actions = actions_given (actions_of r.actions); unsure = false }
+rule_given r = record { matching = match_of r.matching; priority = r.priority; actions = actions_given (actions_of r.actions); unsure = r.unsure }

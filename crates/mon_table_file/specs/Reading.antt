@@ -1,6 +1,6 @@
 -- How the lines of a table file are read, part by part.
-use Rattle.std.specs.Prelude.{◌≡◌, ℕ, zero, suc, ◌≤◌, ◌<◌, ◌^◌, Bool, true, not, ◌==◌, nat_lt, nat_le, ◌&&◌, if◌then◌else◌, List, [], ◌∷◌, ◌++◌, length, codes, Option, Some, None, option_and_then}
-use Rattle.std.specs.List.{flat_map, AllByRecursion}
+use Rattle.std.specs.Prelude.{ℕ, zero, suc, ◌≤◌, ◌<◌, ◌^◌, Bool, true, false, not, ◌==◌, nat_lt, ◌&&◌, if◌then◌else◌, List, [], ◌∷◌, ◌++◌, length, codes, Option, Some, None, option_and_then}
+use Rattle.std.specs.List.{AllByRecursion}
 use Rattle.mon_text.specs.Parts.{Part, behind, led, ended, both, seen, passing, bytes_in, run_in, number_within, datapath_in, feed}
 use Rattle.mon_header.specs.declared.action.Action.{Action}
 use Rattle.mon_header.specs.Matching.{Matching}
@@ -50,6 +50,23 @@ near_of x = record { port = x.0; switch = x.1.0; far_port = x.1.1.0; tag = x.1.1
 unfoldable pub link_in : List ℕ → Part Near
 link_in = seen near_of (led (codes "link ") (both port_in (both datapath_word (both port_in last_tag))))
 
+-- false where the first of two texts stands there, true where the second does
+abbrev pub either : Option (List ℕ) → Option (List ℕ) → Part Bool
+either (Some rest) other = Some (false, rest)
+either None (Some rest) = Some (true, rest)
+either None None = None
+
+abbrev pub which_of : List ℕ → List ℕ → List ℕ → Part Bool
+which_of first second text = either (behind first text) (behind second text)
+
+-- the first line: whether the file is of the second version
+unfoldable pub name_in : List ℕ → Part Bool
+name_in = which_of (first_line false) (first_line true)
+
+-- the end of a rule's line: whether a timeout may take it
+unfoldable pub end_in : List ℕ → Part Bool
+end_in = which_of feed (codes " unsure" ++ feed)
+
 -- there are bytes, and they are actions
 abbrev pub are_some_actions : List ℕ → Bool
 are_some_actions bytes = nat_lt 0 (length bytes) && are_actions bytes
@@ -57,9 +74,9 @@ are_some_actions bytes = nat_lt 0 (length bytes) && are_actions bytes
 abbrev pub run_of : List ℕ → Part (List ℕ)
 run_of text = Some (run_in text)
 
--- a dash or digits, and the end of the line
+-- a dash or digits
 unfoldable pub actions_in : List ℕ → Part (List ℕ)
-actions_in text = end_or (behind (codes "-" ++ feed) text) (passing are_some_actions (ended (feed) run_of) text)
+actions_in text = end_or (behind (codes "-") text) (passing are_some_actions run_of text)
 
 -- the actions of bytes, none where these are no actions
 abbrev pub actions_from : List ℕ → Option (List Action)
@@ -79,23 +96,18 @@ with_rule p = (rule_given p.0, p.1)
 unfoldable pub front_in : List ℕ → Part (ℕ × List ℕ)
 front_in = led (codes "rule ") (both (ended (codes " ") (number_within 0 65535)) (ended (codes " ") (bytes_in 40)))
 
-abbrev pub row_of : (ℕ × List ℕ) × List ℕ → Row
-row_of x = record { priority = x.0.0; matching = x.0.1; actions = x.1 }
+abbrev pub row_of : (ℕ × List ℕ) × (List ℕ × Bool) → Row
+row_of x = record { priority = x.0.0; matching = x.0.1; actions = x.1.0; unsure = x.1.1 }
 
 unfoldable pub row_in : List ℕ → Part Row
-row_in = seen row_of (both front_in actions_in)
-
--- all lines of one kind at the front, and the text behind them
-pub record AreRead {X : Type 0} (line : X → List ℕ) (Fits : X → Type 0) (part : List ℕ → Part X) (text : List ℕ) (lines : List X) (rest : List ℕ) : Type 0 where
-  pub is : text ≡ flat_map line lines ++ rest
-  pub fit : AllByRecursion Fits lines
-  pub ends : part rest ≡ None
+row_in = seen row_of (both front_in (both actions_in end_in))
 
 unfoldable pub tags_line_in : List ℕ → Part (List ℕ)
 tags_line_in = led (codes "tags") (tags_in 65)
 
 -- what the first four lines say
 pub record Heading : Type 0 where
+  pub second : Bool
   pub switch : ℕ
   pub tag : ℕ
   pub tags : List ℕ
@@ -103,13 +115,13 @@ pub record Heading : Type 0 where
 
 -- the same of what the code makes
 abbrev pub heading : Head → Heading
-heading h = record { switch = h.switch; tag = h.tag; tags = h.tags.items; miss = h.miss }
+heading h = record { second = h.second; switch = h.switch; tag = h.tag; tags = h.tags; miss = h.miss }
 
-abbrev pub heading_of : ((ℕ × ℕ) × List ℕ) × ℕ → Heading
-heading_of x = record { switch = x.0.0.0; tag = x.0.0.1; tags = x.0.1; miss = x.1 }
+abbrev pub heading_of : Bool × (((ℕ × ℕ) × List ℕ) × ℕ) → Heading
+heading_of x = record { second = x.0; switch = x.1.0.0.0; tag = x.1.0.0.1; tags = x.1.0.1; miss = x.1.1 }
 
 unfoldable pub head_in : List ℕ → Part Heading
-head_in = seen heading_of (led (codes "monocle-table 1" ++ feed) (both (both switch_in tags_line_in) miss_in))
+head_in = seen heading_of (both name_in (both (both switch_in tags_line_in) miss_in))
 
 abbrev pub FitsTags : List ℕ → Type 0
 FitsTags tags = (length tags ≤ 64) × AllByRecursion IsTag tags
@@ -121,7 +133,7 @@ pub record FitsHeading (h : Heading) : Type 0 where
   pub miss : h.miss < 2 ^ 16
 
 abbrev pub heading_text : Heading → List ℕ
-heading_text h = first_line ++ (switch_line h.switch h.tag ++ (tags_line h.tags ++ miss_line h.miss))
+heading_text h = first_line h.second ++ (switch_line h.switch h.tag ++ (tags_line h.tags ++ miss_line h.miss))
 
 -- the view of the first four lines and of links
 abbrev pub view_given : Heading → List Near → Viewing
@@ -130,8 +142,3 @@ view_given h links = record { switch = h.switch; tag = h.tag; tags = h.tags; lin
 -- the link leads to a switch with another tag in use
 unfoldable pub has_other_tag : ℕ → List ℕ → Near → Bool
 has_other_tag tag tags n = not (n.tag == tag) && is_in_use n.tag tags
-
--- each port is at least the one that may come next
-abbrev pub ports_rise : ℕ → List Near → Bool
-ports_rise least [] = true
-ports_rise least (n ∷ ns) = nat_le least n.port && ports_rise (suc n.port) ns

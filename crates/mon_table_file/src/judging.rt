@@ -1,16 +1,15 @@
 //! Whether what the lines of a table file say goes together.
 
-ghost use Rattle.std.specs.Prelude.{◌≡◌, ◌<◌, ◌^◌, true, suc, List, length, take, drop, IfOk, MatchOption};
-ghost use Rattle.std.specs.List.{list_all, AllByRecursion};
+ghost use Rattle.std.specs.Prelude.{◌≡◌, ◌++◌, ℕ, List, IfOk, MatchOption};
 ghost use Rattle.mon_topo.specs.Ascending.{AreVids};
 ghost use Rattle.mon_shows.specs.Views.{is_in_use};
-ghost use Rattle.mon_table_file.specs.TableFile.{FitsView};
-ghost use Rattle.mon_table_file.specs.Lines.{FitsNear};
-ghost use Rattle.mon_table_file.specs.Reading.{Heading, heading, FitsHeading, has_other_tag, ports_rise, view_given};
+ghost use Rattle.mon_table_file.specs.Lines.{tags_line};
+ghost use Rattle.mon_table_file.specs.Reading.{has_other_tag};
+ghost use Rattle.mon_table_file.specs.TableFile.{AreTags};
 
-use crate::sections::Head;
-use mon_list::{Items, OutOfMemory};
-use mon_shows::{Near, View};
+use crate::lines::tags_line_at;
+use mon_list::OutOfMemory;
+use mon_shows::Near;
 use mon_topo::Vids;
 use std::alloc::Global;
 
@@ -23,32 +22,10 @@ fn is_in_use(tag: u16, tags: &[u16]) -> bool
 
 /// Whether the link leads to a switch with another tag in use.
 #[tactic(auto, unfolding(crate::specs::Reading::has_other_tag))]
-fn has_other_tag(tag: u16, tags: &[u16], near: &Near) -> bool
+pub fn has_other_tag(tag: u16, tags: &[u16], near: &Near) -> bool
     ensures { result ≡ has_other_tag tag tags.now near.now }
 {
     near.tag != tag && is_in_use(near.tag, tags)
-}
-
-/// Whether each link does.
-fn have_other_tags(tag: u16, tags: &[u16], links: &[Near]) -> bool
-    ensures { result ≡ list_all (has_other_tag tag tags.now) links.now }
-{
-    links.iter().all(|near| has_other_tag(tag, tags, near))
-}
-
-/// Whether each link's port is above the one before it.
-fn ports_rise(links: &[Near]) -> bool
-    ensures { result ≡ ports_rise 0 links.now }
-{
-    let mut least: u32 = 0;
-    for near in links {
-        let port = u32::from(near.port);
-        if port < least {
-            return false;
-        }
-        least = port + 1;
-    }
-    true
 }
 
 /// The tags as a list of VLAN ids, unless they are none.
@@ -66,29 +43,20 @@ fn vids_of(alloc: Global, tags: &[u16]) -> Result<Option<Vids>, OutOfMemory>
     Ok(Some(vids))
 }
 
-/// The view that the lines give, unless it is none of a table file.
-pub fn view_of(alloc: Global, head: Head, links: Vec<Near>) -> Result<Option<View>, OutOfMemory>
-    requires head { FitsHeading (heading head) }
-    requires links { AllByRecursion FitsNear links.items }
-    ensures { IfOk result (λ o. MatchOption o (FitsView (view_given (heading head) links.items) → ⊥) (λ v. (v ≡ view_given (heading head) links.items) × FitsView v)) }
+/// The line of the tags in use at the front, rising and with the switch's among them, and the text behind it.
+pub fn tags_of(alloc: Global, tag: u16, text: &[u8]) -> Result<Option<(Vids, &[u8])>, OutOfMemory>
+    ensures { IfOk result (λ o. MatchOption o
+        ((tags rest : List ℕ) → AreTags tag tags → text.now ≡ tags_line tags ++ rest → ⊥)
+        (λ p. AreTags tag p.0 × (text.now ≡ tags_line p.0 ++ p.1.now))) }
 {
-    if !is_in_use(head.tag, &head.tags) {
-        return Ok(None);
-    }
-    if !have_other_tags(head.tag, &head.tags, &links) {
-        return Ok(None);
-    }
-    if !ports_rise(&links) {
-        return Ok(None);
-    }
-    let Some(tags) = vids_of(alloc, &head.tags)? else {
+    let Some((tags, rest)) = tags_line_at(alloc, text)? else {
         return Ok(None);
     };
-    Ok(Some(View {
-        switch: head.switch,
-        tag: head.tag,
-        tags,
-        links: Items::of(links),
-        miss: head.miss,
-    }))
+    if !is_in_use(tag, &tags) {
+        return Ok(None);
+    }
+    match vids_of(alloc, &tags)? {
+        Some(vids) => Ok(Some((vids, rest))),
+        None => Ok(None),
+    }
 }

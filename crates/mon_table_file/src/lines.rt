@@ -2,7 +2,7 @@
 
 ghost use Rattle.std.specs.Prelude.{◌≡◌, codes, IfOk, option_map};
 ghost use Rattle.mon_text.specs.Parts.{led, ended, bytes_in, number_within};
-ghost use Rattle.mon_table_file.specs.Reading.{port_in, datapath_word, last_tag, switch_in, miss_in, tags_in, link_in, actions_from, with_actions, actions_in, with_match, front_in, with_rule, row_in};
+ghost use Rattle.mon_table_file.specs.Reading.{port_in, datapath_word, last_tag, switch_in, miss_in, tags_in, link_in, actions_from, with_actions, actions_in, name_in, end_in, with_match, front_in, with_rule, row_in, tags_line_in};
 
 use mon_header::{Actions, Match};
 use mon_list::OutOfMemory;
@@ -40,6 +40,18 @@ fn last_tag(text: &[u8]) -> Option<(u16, &[u8])>
     Some((tag, rest))
 }
 
+/// The first line: whether the file is of the second version.
+#[tactic(auto, unfolding(crate::specs::Reading::name_in))]
+pub fn name_at(text: &[u8]) -> Option<(bool, &[u8])>
+    ensures { option_map (λ p. (p.0, p.1.now)) result ≡ name_in text.now }
+{
+    if let Some(rest) = behind(b"monocle-table 1\n", text) {
+        return Some((false, rest));
+    }
+    let rest = behind(b"monocle-table 2\n", text)?;
+    Some((true, rest))
+}
+
 /// The line of the switch: its datapath id and its tag.
 #[tactic(auto, unfolding(crate::specs::Reading::switch_in))]
 pub fn switch_at(text: &[u8]) -> Option<((u64, u16), &[u8])>
@@ -71,7 +83,7 @@ fn tag_at(text: &[u8]) -> Option<(u16, &[u8])>
 }
 
 /// The tags of a line, at most 64, and its end.
-pub fn tags_at(alloc: Global, text: &[u8]) -> Result<Option<(Vec<u16>, &[u8])>, OutOfMemory>
+fn tags_at(alloc: Global, text: &[u8]) -> Result<Option<(Vec<u16>, &[u8])>, OutOfMemory>
     ensures { IfOk result (λ o. option_map (λ p. (p.0.items, p.1.now)) o ≡ tags_in 65 text.now) }
 {
     let mut tags = Vec::new(alloc);
@@ -87,6 +99,17 @@ pub fn tags_at(alloc: Global, text: &[u8]) -> Result<Option<(Vec<u16>, &[u8])>, 
         rest = after;
     }
     Ok(None)
+}
+
+/// The line of the tags: at most 64.
+#[tactic(auto, unfolding(crate::specs::Reading::tags_line_in))]
+pub fn tags_line_at(alloc: Global, text: &[u8]) -> Result<Option<(Vec<u16>, &[u8])>, OutOfMemory>
+    ensures { IfOk result (λ o. option_map (λ p. (p.0.items, p.1.now)) o ≡ tags_line_in text.now) }
+{
+    match behind(b"tags", text) {
+        Some(rest) => tags_at(alloc, rest),
+        None => Ok(None),
+    }
 }
 
 /// The line of a link.
@@ -154,22 +177,31 @@ fn actions_from(alloc: Global, bytes: &[u8]) -> Result<Option<Actions>, OutOfMem
     }
 }
 
-/// A dash or the digits of actions, and the end of the line.
+/// A dash or the digits of actions.
 #[tactic(auto, unfolding(crate::specs::Reading::actions_in))]
 fn actions_at(alloc: Global, text: &[u8]) -> Result<Option<(Actions, &[u8])>, OutOfMemory>
     ensures { IfOk result (λ o. option_map (λ p. (p.0, p.1.now)) o ≡ option_map with_actions (actions_in text.now)) }
 {
-    if let Some(rest) = behind(b"-\n", text) {
+    if let Some(rest) = behind(b"-", text) {
         return Ok(Some((Actions::new(alloc), rest)));
     }
     let (bytes, rest) = take_run(alloc, text)?;
-    let Some(rest) = behind(b"\n", rest) else {
-        return Ok(None);
-    };
     match actions_from(alloc, &bytes)? {
         Some(actions) => Ok(Some((actions, rest))),
         None => Ok(None),
     }
+}
+
+/// The end of a rule's line: whether a timeout may take the rule.
+#[tactic(auto, unfolding(crate::specs::Reading::end_in))]
+fn end_at(text: &[u8]) -> Option<(bool, &[u8])>
+    ensures { option_map (λ p. (p.0, p.1.now)) result ≡ end_in text.now }
+{
+    if let Some(rest) = behind(b"\n", text) {
+        return Some((false, rest));
+    }
+    let rest = behind(b" unsure\n", text)?;
+    Some((true, rest))
 }
 
 /// The line of a rule.
@@ -180,13 +212,16 @@ pub fn rule_at(alloc: Global, text: &[u8]) -> Result<Option<(Rule, &[u8])>, OutO
     let Some((priority, matching, rest)) = front_at(text) else {
         return Ok(None);
     };
-    match actions_at(alloc, rest)? {
-        Some((actions, rest)) => Ok(Some((
+    let Some((actions, rest)) = actions_at(alloc, rest)? else {
+        return Ok(None);
+    };
+    match end_at(rest) {
+        Some((unsure, rest)) => Ok(Some((
             Rule {
                 matching,
                 priority,
                 actions,
-                unsure: false,
+                unsure,
             },
             rest,
         ))),

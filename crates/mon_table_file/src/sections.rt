@@ -1,86 +1,116 @@
 //! The sections of a table file.
 
-ghost use Rattle.std.specs.Prelude.{◌≡◌, ℕ, List, map, IfOk, option_map};
-ghost use Rattle.mon_table_file.specs.Lines.{link_line, FitsNear, Row, rule_line, FitsRow, rule_given};
-ghost use Rattle.mon_table_file.specs.Reading.{link_in, row_in, AreRead, tags_line_in, heading, head_in};
+ghost use Rattle.std.specs.Prelude.{◌≡◌, IfOk};
+ghost use Rattle.std.specs.Result.{IfErr};
+ghost use Rattle.mon_text.specs.Faults.{OnBadFrom};
+ghost use Rattle.mon_table_file.specs.Lines.{may_stand};
+ghost use Rattle.mon_table_file.specs.Reading.{heading};
+ghost use Rattle.mon_table_file.specs.Sections.{HeadAt, LinksAt, LinksStop, RulesAt, RulesStop, IsBrokenFrom};
 
-use crate::lines::{link_at, miss_at, rule_at, switch_at, tags_at};
-use mon_list::OutOfMemory;
-use mon_shows::Near;
-use mon_table::Rule;
-use mon_text::behind;
+use crate::judging::{has_other_tag, tags_of};
+use crate::lines::{link_at, miss_at, name_at, rule_at, switch_at};
+use mon_shows::Nears;
+use mon_table::Table;
+use mon_text::LineFault;
+use mon_topo::Vids;
 use std::alloc::Global;
 
-/// What the first four lines say: a switch, its tag, the tags in use and the miss length.
+/// The most rules of a table.
+const MOST_RULES: u32 = 4096;
+
+/// What the first four lines say: whether the file is of the second version, a switch, its tag, the tags in use and the
+/// miss length.
 #[derive(Drop)]
 pub struct Head {
+    pub second: bool,
     pub switch: u64,
     pub tag: u16,
-    pub tags: Vec<u16>,
+    pub tags: Vids,
     pub miss: u16,
 }
 
-/// The line of the tags: at most 64.
-#[tactic(auto, unfolding(crate::specs::Reading::tags_line_in))]
-fn tags_line_at(alloc: Global, text: &[u8]) -> Result<Option<(Vec<u16>, &[u8])>, OutOfMemory>
-    ensures { IfOk result (λ o. option_map (λ p. (p.0.items, p.1.now)) o ≡ tags_line_in text.now) }
+/// The first four lines, and the text behind them.
+pub fn head_at(alloc: Global, text: &[u8]) -> Result<(Head, &[u8]), LineFault<'_>>
+    ensures found { IfOk result (λ p. HeadAt text.now (heading p.0) p.1.now) }
+    ensures breaks { IfErr result (λ fault. OnBadFrom fault (IsBrokenFrom text.now)) }
 {
-    match behind(b"tags", text) {
-        Some(rest) => tags_at(alloc, rest),
-        None => Ok(None),
-    }
+    let Some((second, named)) = name_at(text) else {
+        return Err(LineFault::Bad(text));
+    };
+    let Some(((switch, tag), switched)) = switch_at(named) else {
+        return Err(LineFault::Bad(named));
+    };
+    let Some((tags, tagged)) = tags_of(alloc, tag, switched)? else {
+        return Err(LineFault::Bad(switched));
+    };
+    let Some((miss, rest)) = miss_at(tagged) else {
+        return Err(LineFault::Bad(tagged));
+    };
+    let head = Head {
+        second,
+        switch,
+        tag,
+        tags,
+        miss,
+    };
+    Ok((head, rest))
 }
 
-/// The first four lines.
-#[tactic(auto, unfolding(crate::specs::Reading::head_in))]
-pub fn head_at(alloc: Global, text: &[u8]) -> Result<Option<(Head, &[u8])>, OutOfMemory>
-    ensures { IfOk result (λ o. option_map (λ p. (heading p.0, p.1.now)) o ≡ head_in text.now) }
+/// The lines of links, by rising port and each to a switch with another tag in use, and the text behind them.
+pub fn links_at<'a>(
+    alloc: Global,
+    head: &Head,
+    text: &'a [u8],
+) -> Result<(Nears, &'a [u8]), LineFault<'a>>
+    ensures found { IfOk result (λ p. LinksAt head.now.tag head.now.tags text.now p.0 p.1.now) }
+    ensures stops { IfErr result (λ fault. OnBadFrom fault (LinksStop head.now.tag head.now.tags text.now)) }
 {
-    let Some(rest) = behind(b"monocle-table 1\n", text) else {
-        return Ok(None);
-    };
-    let Some(((switch, tag), rest)) = switch_at(rest) else {
-        return Ok(None);
-    };
-    let Some((tags, rest)) = tags_line_at(alloc, rest)? else {
-        return Ok(None);
-    };
-    match miss_at(rest) {
-        Some((miss, rest)) => Ok(Some((
-            Head {
-                switch,
-                tag,
-                tags,
-                miss,
-            },
-            rest,
-        ))),
-        None => Ok(None),
-    }
-}
-
-/// The lines of links.
-pub fn links_at(alloc: Global, text: &[u8]) -> Result<(Vec<Near>, &[u8]), OutOfMemory>
-    ensures { IfOk result (λ p. AreRead link_line FitsNear link_in text.now p.0.items p.1.now) }
-{
-    let mut links = Vec::new(alloc);
+    let mut links = Nears::new(alloc);
+    let mut least: u32 = 0;
     let mut rest = text;
     while let Some((near, after)) = link_at(rest) {
+        if u32::from(near.port) < least {
+            return Err(LineFault::Bad(rest));
+        }
+        if !has_other_tag(head.tag, head.tags.items(), &near) {
+            return Err(LineFault::Bad(rest));
+        }
+        least = u32::from(near.port) + 1;
         links.push(near)?;
         rest = after;
     }
     Ok((links, rest))
 }
 
-/// The lines of rules.
-pub fn rules_at(alloc: Global, text: &[u8]) -> Result<(Vec<Rule>, &[u8]), OutOfMemory>
-    ensures { IfOk result (λ p. (rows : List Row) × (p.0.items ≡ map rule_given rows) × AreRead rule_line FitsRow row_in text.now rows p.1.now) }
+/// Whether a rule may stand in a file: one that a timeout may take stands in the second version alone.
+fn may_stand(second: bool, unsure: bool) -> bool
+    ensures { result ≡ may_stand second unsure }
 {
-    let mut rules = Vec::new(alloc);
+    second || !unsure
+}
+
+/// The table of the lines of rules that the text is.
+pub fn rules_at(alloc: Global, second: bool, text: &[u8]) -> Result<Table, LineFault<'_>>
+    ensures found { IfOk result (RulesAt second text.now) }
+    ensures stops { IfErr result (λ fault. OnBadFrom fault (RulesStop second text.now)) }
+{
+    let mut table = Table::new(alloc);
     let mut rest = text;
     while let Some((rule, after)) = rule_at(alloc, rest)? {
-        rules.push(rule)?;
-        rest = after;
+        if table.len() == MOST_RULES {
+            return Err(LineFault::Bad(rest));
+        }
+        if !may_stand(second, rule.unsure) {
+            return Err(LineFault::Bad(rest));
+        }
+        match table.put(rule)? {
+            Some(_) => return Err(LineFault::Bad(rest)),
+            None => rest = after,
+        }
     }
-    Ok((rules, rest))
+    table.keeps();
+    if !rest.is_empty() {
+        return Err(LineFault::Bad(rest));
+    }
+    Ok(table)
 }

@@ -1,6 +1,6 @@
-//! Files written by hand, texts that are no such file, and the first generated rules.
+//! Files written by hand, texts that are no such file and where they are bad, and the first generated rules.
 
-use crate::{OutOfMemory, TextFault, generate, read_table};
+use crate::{FileFault, OutOfMemory, generate, read_table};
 use mon_header::Action;
 use mon_shows::View;
 use mon_table::{Rule, Table};
@@ -24,8 +24,16 @@ fn joined(alloc: Global, parts: &[&str]) -> Result<Vec<u8>, OutOfMemory> {
     Ok(text)
 }
 
-fn read(alloc: Global, head: &str, links: &str, rules: &str) -> Result<(View, Table), TextFault> {
+fn read(alloc: Global, head: &str, links: &str, rules: &str) -> Result<(View, Table), FileFault> {
     read_table(alloc, &joined(alloc, &[head, links, rules])?)
+}
+
+/// The offset at which such a file is bad.
+fn bad_at(alloc: Global, head: &str, links: &str, rules: &str) -> Option<u64> {
+    match read(alloc, head, links, rules) {
+        Err(FileFault::Bad { offset }) => Some(offset),
+        _ => None,
+    }
 }
 
 /// Whether the outputs of a rule go to these ports, and nothing else is done.
@@ -70,55 +78,108 @@ fn reads_a_table(rt: HostRuntime) -> Result<(), Fail> {
 }
 
 #[test]
+fn reads_rules_that_a_timeout_may_take(rt: HostRuntime) -> Result<(), Fail> {
+    let head = "monocle-table 2\nswitch 0000000000000001 100\ntags 100 101\nmiss 128\n";
+    let rules =
+        "rule 50 003820ef000000000000000000000000000000000000080000000000000000000000000000000000 - unsure\nrule 100 003220ef000000000000000000000000000000000000080000000000000000000a00000000000000 0000000800020000\nrule 7 003220ef000000000000000000000000000000000000080000000000000000000a00000000000000 0000000800020000 unsure\n";
+    let (_, table) = read(rt.alloc(), head, LINKS, rules)?;
+    assert_eq!(rt; table.len(), 3);
+    assert!(rt; !table.rule(0).unsure && table.rule(0).priority == 100);
+    assert!(rt; table.rule(1).unsure && sends_to(table.rule(1), &[]));
+    assert!(rt; table.rule(2).unsure && sends_to(table.rule(2), &[2]));
+    Ok(())
+}
+
+#[test]
 fn refuses_other_heads(rt: HostRuntime) {
-    let heads = [
-        "",
-        "monocle-table 1\nswitch 0000000000000001 100\ntags 100 101\nmiss 128",
-        "monocle-table 1\nswitch 000000000000000A 100\ntags 100 101\nmiss 128\n",
-        "monocle-table 1\nswitch 0000000000000001 102\ntags 100 101\nmiss 128\n",
-        "monocle-table 1\nswitch 0000000000000001 100\ntags 101 100\nmiss 128\n",
-        "monocle-table 1\nswitch 0000000000000001 100\ntags 100 101\nmiss 0128\n",
+    let heads: [(&str, u64); 9] = [
+        ("", 0),
+        ("monocle-table 3\n", 0),
+        // Lines are missing.
+        ("monocle-table 1\n", 16),
+        (
+            "monocle-table 1\nswitch 0000000000000001 100\ntags 100 101\nmiss 128",
+            57,
+        ),
+        (
+            "monocle-table 1\nswitch 000000000000000A 100\ntags 100 101\nmiss 128\n",
+            16,
+        ),
+        (
+            "monocle-table 1\nswitch 0000000000000001 102\ntags 100 101\nmiss 128\n",
+            44,
+        ),
+        (
+            "monocle-table 1\nswitch 0000000000000001 100\ntags 101 100\nmiss 128\n",
+            44,
+        ),
+        (
+            "monocle-table 1\nswitch 0000000000000001 100\ntags 100 101\nmiss 0128\n",
+            57,
+        ),
+        (
+            "monocle-table 2\nswitch 0000000000000001 100\ntags 100 101\nmiss 65536\n",
+            57,
+        ),
     ];
-    for head in heads {
-        assert!(rt;
-            matches!(read(rt.alloc(), head, "", ""), Err(TextFault::Bad)),
-            "{head}"
-        );
+    for (head, offset) in heads {
+        assert_eq!(rt; bad_at(rt.alloc(), head, "", ""), Some(offset));
     }
 }
 
 #[test]
 fn refuses_other_links(rt: HostRuntime) {
-    let links = [
-        "link 2 0000000000000002 1 101\nlink 1 0000000000000003 1 101\n",
-        "link 1 0000000000000002 1 101\nlink 1 0000000000000003 1 101\n",
-        "link 1 0000000000000002 1 102\n",
-        "link 1 0000000000000002 1 100\n",
-        "link 0 0000000000000002 1 101\n",
+    let links: [(&str, u64); 5] = [
+        (
+            "link 2 0000000000000002 1 101\nlink 1 0000000000000003 1 101\n",
+            96,
+        ),
+        (
+            "link 1 0000000000000002 1 101\nlink 1 0000000000000003 1 101\n",
+            96,
+        ),
+        ("link 1 0000000000000002 1 102\n", 66),
+        ("link 1 0000000000000002 1 100\n", 66),
+        ("link 0 0000000000000002 1 101\n", 66),
     ];
-    for text in links {
-        assert!(rt;
-            matches!(read(rt.alloc(), HEAD, text, RULES), Err(TextFault::Bad)),
-            "{text}"
-        );
+    for (text, offset) in links {
+        assert_eq!(rt; bad_at(rt.alloc(), HEAD, text, RULES), Some(offset));
     }
 }
 
 #[test]
 fn refuses_other_rules(rt: HostRuntime) {
-    let rules = [
+    let rules: [(&str, u64); 7] = [
         // One identity, in two forms of the match.
-        "rule 7 003220ef000000000000000000000000000000000000080000000000000000000a00000000000000 -\nrule 7 003228efffffffffffffffffffffffffffffffffffff0800ffffffffffffffff0a0000ffffffffff -\n",
-        "rule 65536 003220ef000000000000000000000000000000000000080000000000000000000a00000000000000 -\n",
-        "rule 7 003220ef000000000000000000000000000000000000080000000000000000000a00000000000000 0000000400020000\n",
-        "rule 7 003220ef000000000000000000000000000000000000080000000000000000000a00000000000000 -",
-        "rule 7 003220ef000000000000000000000000000000000000080000000000000000000a00000000000000 -\nlink 1 0000000000000002 1 101\n",
+        (
+            "rule 7 003220ef000000000000000000000000000000000000080000000000000000000a00000000000000 -\nrule 7 003228efffffffffffffffffffffffffffffffffffff0800ffffffffffffffff0a0000ffffffffff -\n",
+            156,
+        ),
+        (
+            "rule 7 003220ef000000000000000000000000000000000000080000000000000000000a00000000000000 -\nrule 65536 003220ef000000000000000000000000000000000000080000000000000000000a00000000000000 -\n",
+            156,
+        ),
+        (
+            "rule 7 003220ef000000000000000000000000000000000000080000000000000000000a00000000000000 0000000400020000\n",
+            66,
+        ),
+        (
+            "rule 7 003220ef000000000000000000000000000000000000080000000000000000000a00000000000000 -",
+            66,
+        ),
+        (
+            "rule 7 003220ef000000000000000000000000000000000000080000000000000000000a00000000000000 -\nlink 1 0000000000000002 1 101\n",
+            156,
+        ),
+        // A word of the second version in a file of the first.
+        (
+            "rule 7 003220ef000000000000000000000000000000000000080000000000000000000a00000000000000 -\nrule 8 003220ef000000000000000000000000000000000000080000000000000000000a00000000000000 - unsure\n",
+            156,
+        ),
+        ("\n", 66),
     ];
-    for text in rules {
-        assert!(rt;
-            matches!(read(rt.alloc(), HEAD, "", text), Err(TextFault::Bad)),
-            "{text}"
-        );
+    for (text, offset) in rules {
+        assert_eq!(rt; bad_at(rt.alloc(), HEAD, "", text), Some(offset));
     }
 }
 
@@ -142,7 +203,10 @@ fn reads_what_is_as_long_as_it_may_be(rt: HostRuntime) -> Result<(), Fail> {
     let (_, table) = read_table(alloc, &text)?;
     assert_eq!(rt; table.len(), 1);
     assert_eq!(rt; table.rule(0).actions.items().len(), 64);
-    assert!(rt; matches!(read_table(alloc, &longer), Err(TextFault::Bad)));
+    assert_eq!(rt;
+        read_table(alloc, &longer).err(),
+        Some(FileFault::Bad { offset: 66 })
+    );
     Ok(())
 }
 

@@ -6,9 +6,13 @@ abbrev pub Ascends : ℕ → ℕ → List ℕ → Type 0
 Ascends low high [] = Unit {0}
 Ascends low high (x ∷ xs) = (low ≤ x) × (x ≤ high) × Ascends (suc x) high xs
 
--- VLAN ids that a tag may bear (IEEE 802.1Q: 0 and 4095 are reserved), each above the one before it
+-- the last VLAN id that a tag may bear (IEEE 802.1Q: 0 and 4095 are reserved)
+abbrev pub LAST_VID : ℕ
+LAST_VID = 4094
+
+-- VLAN ids that a tag may bear, each above the one before it
 abbrev pub AreVids : List ℕ → Type 0
-AreVids vids = Ascends 1 4094 vids
+AreVids vids = Ascends 1 LAST_VID vids
 
 -- datapath ids, each above the one before it
 abbrev pub AreDatapaths : List ℕ → Type 0

@@ -1,7 +1,7 @@
 //! Lists of VLAN ids.
 
 ghost use Rattle.std.specs.Prelude.{◌≡◌, [], ◌∷◌, ◌++◌, OnOk, OnErr, IsTrue};
-ghost use Rattle.mon_topo.specs.Ascending.{AreVids, next, may_follow};
+ghost use Rattle.mon_topo.specs.Ascending.{LAST_VID, AreVids, next, may_follow};
 
 use mon_list::OutOfMemory;
 use std::alloc::Global;
@@ -53,14 +53,14 @@ impl Vids {
 
     /// Whether this id may come next: it is 1 to 4094, and above all that are there.
     pub fn accepts(&self, vid: u16) -> bool
-        ensures { result ≡ may_follow 1 4094 self.now vid }
+        ensures { result ≡ may_follow 1 LAST_VID self.now vid }
     {
         self.next() <= u32::from(vid) && vid <= 4094
     }
 
     /// Appends one id, or changes nothing for want of memory.
     pub fn push(&mut self, vid: u16) -> Result<(), OutOfMemory>
-        requires { IsTrue (may_follow 1 4094 self.old vid) }
+        requires { IsTrue (may_follow 1 LAST_VID self.old vid) }
         ensures pushed { OnOk result (self.new ≡ self.old ++ vid ∷ []) }
         ensures same { OnErr result (self.new ≡ self.old) }
     {

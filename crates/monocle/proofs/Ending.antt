@@ -71,9 +71,9 @@ pub table-unread : (told : Option Contents) (name : List ℕ) (status : ℕ) (ca
 table-unread told name status calls (inl gone) = inl gone
 table-unread told name status calls (inr want) = inr (inr want)
 
-pub table-bad : (told : Option Contents) (name : List ℕ) (status : ℕ) → status ≡ 5 → IfSome told (λ files. GivesNone files (File name))
-    → (calls : List Call) → IsSay (codes "monocle: table\n") calls → IsSourceEnd told (File name) status (Read name true ∷ calls)
-table-bad told name status five cause calls e = inr (inl (five, ap (λ (cs : List Call). Read name true ∷ cs) e, cause))
+pub table-bad : (told : Option Contents) (name : List ℕ) (offset : ℕ) (text : List ℕ) (status : ℕ) → status ≡ 5 → IfSome told (λ files. GivesNone files (File name) offset) → text ≡ bad_at (codes "monocle: table") offset
+    → (calls : List Call) → IsSay text calls → IsSourceEnd told (File name) status (Read name true ∷ calls)
+table-bad told name offset text status five cause is calls e = inr (inl (offset, (five, ap (λ (cs : List Call). Read name true ∷ cs) (e ∙ ap (λ (t : List ℕ). Say t ∷ []) is), cause)))
 
 -- a certificate file
 pub file-unread : (told : Option Contents) (name : List ℕ) (status : ℕ) (calls : List Call) → IsReadEnd [] name status calls → IsFileEnd told name status calls

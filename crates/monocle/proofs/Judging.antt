@@ -5,7 +5,7 @@ use Rattle.mon_shows.specs.Views.{Viewing}
 use Rattle.mon_certificate.specs.declared.certificate.Certificate.{Certificate}
 use Rattle.mon_certificate_file.specs.CertificateFile.{Spells, IsCertificateFile}
 use Rattle.mon_text.specs.BadLines.{IsFirstBadLine}
-use Rattle.mon_table_file.specs.TableFile.{IsTableFile}
+use Rattle.mon_table_file.specs.TableFile.{IsTableFile, IsTableText}
 use Rattle.mon_plan.specs.Checking.{checked}
 use Rattle.mon_words.specs.declared.command.Source.{Source}
 use Rattle.mon_words.specs.declared.command.Source.TheVariants.{File}
@@ -13,11 +13,11 @@ use Rattle.mon_world.specs.Files.{with_more}
 use Rattle.monocle.specs.Planning.{Contents, Gives, GivesNone, GivesSome, HasNoSpelling, IsSpelled, IsCheck, checked_text, status_of}
 use Rattle.monocle.specs.Running.{WritesPrefix, Checks}
 
-pub no-table : (told : Option Contents) (name text read : List ℕ) → IfSome told (λ files. files name ≡ Some text) → read ≡ text
-    → ((v : Viewing) (t : List Rule) → IsTableFile read v t → ⊥) → IfSome told (λ files. GivesNone files (File name))
-no-table None name text read content same none = content
-no-table (Some files) name text read content same none =
-    (text, content, subst (λ bytes. (v : Viewing) (t : List Rule) → IsTableFile bytes v t → ⊥) same none)
+pub no-table : (told : Option Contents) (name text read : List ℕ) (offset : ℕ) → IfSome told (λ files. files name ≡ Some text) → read ≡ text
+    → ((v : Viewing) (t : List Rule) → IsTableFile read v t → ⊥) → IsFirstBadLine IsTableText read offset → IfSome told (λ files. GivesNone files (File name) offset)
+no-table None name text read offset content same none bad = content
+no-table (Some files) name text read offset content same none bad =
+    (text, content, subst (λ bytes. (v : Viewing) (t : List Rule) → IsTableFile bytes v t → ⊥) same none, subst (λ bytes. IsFirstBadLine IsTableText bytes offset) same bad)
 
 pub no-certificates : (told : Option Contents) (name text read : List ℕ) (offset : ℕ) → IfSome told (λ files. files name ≡ Some text) → read ≡ text
     → ((cs : List Certificate) → Spells read cs → ⊥) → IsFirstBadLine IsCertificateFile read offset → IfSome told (λ files. HasNoSpelling files name offset)

@@ -60,7 +60,7 @@ reads_of (Generate n seed) = []
 abbrev pub IsSourceEnd : Option Contents → Source → ℕ → List Call → Type 0
 IsSourceEnd told (File name) status calls =
     IsUnread [] name status calls
-    ⊎ (IsBad (Read name true ∷ []) (codes "monocle: table\n") told (λ files. GivesNone files (File name)) status calls
+    ⊎ (((offset : ℕ) × IsBad (Read name true ∷ []) (bad_at (codes "monocle: table") offset) told (λ files. GivesNone files (File name) offset) status calls)
     ⊎ IsWant status calls)
 IsSourceEnd told (Generate n seed) status calls = IsWant status calls
 

@@ -5,7 +5,7 @@ use Rattle.mon_shows.specs.Views.{Viewing}
 use Rattle.mon_certificate.specs.declared.certificate.Certificate.{Certificate}
 use Rattle.mon_text.specs.BadLines.{IsFirstBadLine}
 use Rattle.mon_certificate_file.specs.CertificateFile.{Spells, IsCertificateFile}
-use Rattle.mon_table_file.specs.TableFile.{IsTableFile}
+use Rattle.mon_table_file.specs.TableFile.{IsTableFile, IsTableText}
 use Rattle.mon_table_file.specs.Generator.{generated_view, generated}
 use Rattle.mon_plan.specs.declared.summary.Summary.{Summary}
 use Rattle.mon_plan.specs.declared.check.Checked.{Checked}
@@ -25,10 +25,11 @@ abbrev pub Gives : Contents → Source → Viewing → List Rule → Type 0
 Gives files (File name) v t = (text : List ℕ) × (files name ≡ Some text) × IsTableFile text v t
 Gives files (Generate n seed) v t = (v ≡ generated_view) × (t ≡ generated seed n)
 
--- the source's file is no table
-abbrev pub GivesNone : Contents → Source → Type 0
-GivesNone files (File name) = (text : List ℕ) × (files name ≡ Some text) × ((v : Viewing) (t : List Rule) → IsTableFile text v t → ⊥)
-GivesNone files (Generate n seed) = ⊥
+-- the source's file is no table, and its first bad line begins at the offset
+abbrev pub GivesNone : Contents → Source → ℕ → Type 0
+GivesNone files (File name) offset =
+    (text : List ℕ) × (files name ≡ Some text) × ((v : Viewing) (t : List Rule) → IsTableFile text v t → ⊥) × IsFirstBadLine IsTableText text offset
+GivesNone files (Generate n seed) offset = ⊥
 
 -- a word and a number, in a line of their own
 abbrev pub count_line : List ℕ → ℕ → List ℕ

@@ -1,6 +1,6 @@
 //! `check`: whether certificates of a table are accepted.
 
-ghost use Rattle.std.specs.Prelude.{◌≡◌, ◌≢◌, ◌<◌, ◌≤◌, [], ◌∷◌, ℕ, List, Err, Some, true, IfOk, IfSome, OnOk, IsErrOf, string_bytes, codes};
+ghost use Rattle.std.specs.Prelude.{◌≡◌, ◌≢◌, ◌<◌, ◌≤◌, [], ◌∷◌, ℕ, List, Err, Some, true, IfOk, IfSome, OnOk, IsErrOf, string_bytes};
 ghost use Rattle.std.specs.Result.{IfErr};
 ghost use Rattle.mon_certificate.specs.declared.certificate.Certificate.{Certificate};
 ghost use Rattle.mon_certificate_file.specs.CertificateFile.{Spells, IsCertificateFile};
@@ -12,9 +12,9 @@ ghost use Rattle.monocle.specs.Planning.{HasNoSpelling, IsSpelled, checked_text,
 ghost use Rattle.monocle.specs.Running.{Checks};
 ghost use Rattle.mon_world.specs.declared.calls.Call.TheVariants.{Read};
 ghost use Rattle.monocle.specs.Calls.{Quiet, Called};
-ghost use Rattle.monocle.specs.Ending.{bad_at, IsFileEnd, IsEndOf};
+ghost use Rattle.monocle.specs.Ending.{IsFileEnd, IsEndOf};
 
-use crate::saying::{content_of, out_of_memory, put, refused};
+use crate::saying::{bad_text, content_of, out_of_memory, put, refused};
 use crate::source::table_of;
 use mon_plan::{Certificates, Checked, FileFault, check_table, read_certificates};
 use mon_shows::View;
@@ -55,14 +55,6 @@ fn judged(alloc: Global, v: &View, t: &Table, c: &Certificates) -> Result<(Strin
     Ok((checked_text(alloc, checked)?, status_of(checked)))
 }
 
-/// What is said of a certificate file that is bad from this byte on.
-fn bad_text(alloc: Global, offset: u64) -> Result<String, OutOfMemory>
-    ensures { IfOk result (λ text. string_bytes text ≡ bad_at (codes "monocle: certificates") offset) }
-{
-    let text = format!(in alloc; "monocle: certificates: offset {offset}\n")?;
-    Ok(text)
-}
-
 /// The certificates of a certificate file.
 fn certificates_in(alloc: Global, text: &[u8]) -> Result<Certificates, FileFault>
     ensures found { IfOk result (Spells text.now) }
@@ -87,7 +79,7 @@ fn certificates_of<D: Desk>(alloc: Global, name: &str, desk: &mut D) -> Result<C
     let text = content_of(alloc, name, desk)?;
     match certificates_in(alloc, &text) {
         Ok(read) => Ok(read),
-        Err(FileFault::Bad { offset }) => match bad_text(alloc, offset) {
+        Err(FileFault::Bad { offset }) => match bad_text(alloc, "monocle: certificates", offset) {
             Ok(said) => Err(refused(alloc, desk, 5, said.as_bytes())),
             Err(OutOfMemory) => Err(out_of_memory(alloc, desk)),
         },

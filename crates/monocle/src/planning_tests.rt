@@ -174,11 +174,31 @@ fn a_plan_is_accepted(rt: HostRuntime) -> Result<(), Fail> {
     Ok(())
 }
 
-const NO_TABLE: &str = "monocle: table\n";
+/// A word of the second version in a file of the first.
+const UNSURE: &str =
+    "rule 50 003820ef000000000000000000000000000000000000080000000000000000000000000000000000 0000000800020000 unsure\n";
 
-/// Two rules of one identity; a tag that isn't listed; ports out of order; no certificates; and a table that is judged
-/// before the certificates are read.
-const OUT_OF_FORM: [Row; 6] = [
+/// An unsure rule where there are none; a line without its end; two rules of one identity; a tag that isn't listed; ports
+/// out of order; no certificates; and a table that is judged before the certificates are read.
+const OUT_OF_FORM: [Row; 8] = [
+    (
+        PLAN,
+        &[SWITCH, TO_24, UNSURE],
+        "",
+        Failing::Nothing,
+        5,
+        "",
+        "monocle: table: offset 233\n",
+    ),
+    (
+        PLAN,
+        &[SWITCH, TO_24, "rule 7"],
+        "",
+        Failing::Nothing,
+        5,
+        "",
+        "monocle: table: offset 233\n",
+    ),
     (
         PLAN,
         &[SWITCH, TO_24, TO_24],
@@ -186,7 +206,7 @@ const OUT_OF_FORM: [Row; 6] = [
         Failing::Nothing,
         5,
         "",
-        NO_TABLE,
+        "monocle: table: offset 233\n",
     ),
     (
         CHECK,
@@ -195,7 +215,7 @@ const OUT_OF_FORM: [Row; 6] = [
         Failing::Nothing,
         5,
         "",
-        NO_TABLE,
+        "monocle: table: offset 233\n",
     ),
     (
         CHECK,
@@ -204,7 +224,7 @@ const OUT_OF_FORM: [Row; 6] = [
         Failing::Nothing,
         5,
         "",
-        NO_TABLE,
+        "monocle: table: offset 126\n",
     ),
     (
         PLAN,
@@ -213,7 +233,7 @@ const OUT_OF_FORM: [Row; 6] = [
         Failing::Nothing,
         5,
         "",
-        NO_TABLE,
+        "monocle: table: offset 126\n",
     ),
     (
         CHECK,
@@ -231,7 +251,7 @@ const OUT_OF_FORM: [Row; 6] = [
         Failing::Read(1),
         5,
         "",
-        NO_TABLE,
+        "monocle: table: offset 16\n",
     ),
 ];
 

@@ -7,7 +7,7 @@ ghost use Rattle.mon_world.specs.Files.{with_more};
 ghost use Rattle.mon_world.specs.declared.calls.Call.TheVariants.{Read};
 ghost use Rattle.monocle.specs.Running.{WritesPrefix};
 ghost use Rattle.monocle.specs.Calls.{Quiet, Called};
-ghost use Rattle.monocle.specs.Ending.{IsSay, IsReadEnd, IsWriteEnd, IsWant, unread};
+ghost use Rattle.monocle.specs.Ending.{IsSay, IsReadEnd, IsWriteEnd, IsWant, bad_at, unread};
 
 use mon_world::{Desk, DeskFault, OutOfMemory};
 use std::alloc::Global;
@@ -42,6 +42,14 @@ fn unread(alloc: Global, name: &str) -> Result<String, OutOfMemory>
     ensures { IfOk result (λ text. string_bytes text ≡ unread name.now) }
 {
     let text = format!(in alloc; "monocle: cannot read {name}\n")?;
+    Ok(text)
+}
+
+/// What is said of a file that is bad from this byte on.
+pub(crate) fn bad_text(alloc: Global, what: &str, offset: u64) -> Result<String, OutOfMemory>
+    ensures { IfOk result (λ text. string_bytes text ≡ bad_at what.now offset) }
+{
+    let text = format!(in alloc; "{what}: offset {offset}\n")?;
     Ok(text)
 }
 

@@ -3,6 +3,7 @@ use Rattle.std.specs.Prelude.{◌≡◌, ℕ, zero, suc, ◌-◌, ◌%◌, ◌<�
 use Rattle.mon_fields.specs.Fields.{number_at}
 use Rattle.mon_header.specs.declared.action.Action.{Action}
 use Rattle.mon_header.specs.declared.action.Action.TheVariants.{Output, SetVlanVid, SetVlanPcp, StripVlan, SetDlSrc, SetDlDst, SetNwSrc, SetNwDst, SetNwTos, SetTpSrc, SetTpDst, Enqueue, Unknown}
+use Rattle.mon_header.specs.ActionTypes.{OUTPUT, SET_VLAN_VID, SET_VLAN_PCP, STRIP_VLAN, SET_DL_SRC, SET_DL_DST, SET_NW_SRC, SET_NW_DST, SET_NW_TOS, SET_TP_SRC, SET_TP_DST, ENQUEUE}
 use Rattle.of_action.specs.declared.fault.ActionFault.{ActionFault}
 use Rattle.of_action.specs.declared.fault.ActionFault.TheVariants as faults
 
@@ -15,8 +16,8 @@ len_of bytes = number_at 2 2 bytes
 -- the length that a type of the table has; the other types have any
 abbrev pub has_its_length : ℕ → ℕ → Bool
 has_its_length kind len =
-    if nat_lt 11 kind then true
-    else (if (kind == 4) || ((kind == 5) || (kind == 11)) then len == 16 else len == 8)
+    if nat_lt ENQUEUE kind then true
+    else (if (kind == SET_DL_SRC) || ((kind == SET_DL_DST) || (kind == ENQUEUE)) then len == 16 else len == 8)
 
 -- no whole action stands at the front: its type and length are cut off, the length is 0 or no multiple of 8, it goes beyond the end, or it is not the type's
 unfoldable pub is_faulty : List ℕ → Bool
@@ -37,22 +38,22 @@ pub record IsAction (bytes : List ℕ) : Type 0 where
 -- an action whose type is in the table
 unfoldable pub known_action : ℕ → List ℕ → Action
 known_action kind bytes =
-    if kind == 0 then Output (number_at 2 4 bytes) (number_at 2 6 bytes)
-    else (if kind == 1 then SetVlanVid (number_at 2 4 bytes)
-    else (if kind == 2 then SetVlanPcp (slice_index bytes 4)
-    else (if kind == 3 then StripVlan
-    else (if kind == 4 then SetDlSrc (number_at 6 4 bytes)
-    else (if kind == 5 then SetDlDst (number_at 6 4 bytes)
-    else (if kind == 6 then SetNwSrc (number_at 4 4 bytes)
-    else (if kind == 7 then SetNwDst (number_at 4 4 bytes)
-    else (if kind == 8 then SetNwTos (slice_index bytes 4)
-    else (if kind == 9 then SetTpSrc (number_at 2 4 bytes)
-    else (if kind == 10 then SetTpDst (number_at 2 4 bytes)
+    if kind == OUTPUT then Output (number_at 2 4 bytes) (number_at 2 6 bytes)
+    else (if kind == SET_VLAN_VID then SetVlanVid (number_at 2 4 bytes)
+    else (if kind == SET_VLAN_PCP then SetVlanPcp (slice_index bytes 4)
+    else (if kind == STRIP_VLAN then StripVlan
+    else (if kind == SET_DL_SRC then SetDlSrc (number_at 6 4 bytes)
+    else (if kind == SET_DL_DST then SetDlDst (number_at 6 4 bytes)
+    else (if kind == SET_NW_SRC then SetNwSrc (number_at 4 4 bytes)
+    else (if kind == SET_NW_DST then SetNwDst (number_at 4 4 bytes)
+    else (if kind == SET_NW_TOS then SetNwTos (slice_index bytes 4)
+    else (if kind == SET_TP_SRC then SetTpSrc (number_at 2 4 bytes)
+    else (if kind == SET_TP_DST then SetTpDst (number_at 2 4 bytes)
     else Enqueue (number_at 2 4 bytes) (number_at 4 12 bytes)))))))))))
 
 -- the action of these bytes; one whose type is not in the table keeps them
 abbrev pub action_of : List ℕ → Action
-action_of bytes = if nat_lt 11 (kind_of bytes) then Unknown bytes else known_action (kind_of bytes) bytes
+action_of bytes = if nat_lt ENQUEUE (kind_of bytes) then Unknown bytes else known_action (kind_of bytes) bytes
 
 -- an action before those that are read behind it
 abbrev pub before : Action → Result (List Action) ℕ → Result (List Action) ℕ

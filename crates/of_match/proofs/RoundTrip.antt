@@ -13,71 +13,43 @@ wild-read : (m : Matching) → packed m.wild < 2 ^ 32 → big_number 4 (drop 0 (
 unfolding spelled
 wild-read m small = big_number-reads_back 4 (packed m.wild) (drop 4 (spelled m)) small
 
-in_port-read : (m : Matching) → InRange m.fields → big_number 2 (drop 4 (spelled m)) ≡ m.fields.in_port
-unfolding spelled
-in_port-read m r = big_number-reads_back 2 m.fields.in_port (drop 6 (spelled m)) r.in_port
+-- each field stands at its place
+record Read (m : Matching) : Type 0 where
+  in_port : big_number 2 (drop 4 (spelled m)) ≡ m.fields.in_port
+  dl_src : big_number 6 (drop 6 (spelled m)) ≡ m.fields.dl_src
+  dl_dst : big_number 6 (drop 12 (spelled m)) ≡ m.fields.dl_dst
+  dl_vlan : big_number 2 (drop 18 (spelled m)) ≡ m.fields.dl_vlan
+  dl_type : big_number 2 (drop 22 (spelled m)) ≡ m.fields.dl_type
+  nw_src : big_number 4 (drop 28 (spelled m)) ≡ m.fields.nw_src
+  nw_dst : big_number 4 (drop 32 (spelled m)) ≡ m.fields.nw_dst
+  tp_src : big_number 2 (drop 36 (spelled m)) ≡ m.fields.tp_src
+  tp_dst : big_number 2 (drop 38 (spelled m)) ≡ m.fields.tp_dst
+  dl_vlan_pcp : slice_index (spelled m) 20 ≡ m.fields.dl_vlan_pcp
+  nw_tos : slice_index (spelled m) 24 ≡ m.fields.nw_tos
+  nw_proto : slice_index (spelled m) 25 ≡ m.fields.nw_proto
 
-dl_src-read : (m : Matching) → InRange m.fields → big_number 6 (drop 6 (spelled m)) ≡ m.fields.dl_src
+read : (m : Matching) → InRange m.fields → Read m
 unfolding spelled
-dl_src-read m r = big_number-reads_back 6 m.fields.dl_src (drop 12 (spelled m)) r.dl_src
-
-dl_dst-read : (m : Matching) → InRange m.fields → big_number 6 (drop 12 (spelled m)) ≡ m.fields.dl_dst
-unfolding spelled
-dl_dst-read m r = big_number-reads_back 6 m.fields.dl_dst (drop 18 (spelled m)) r.dl_dst
-
-dl_vlan-read : (m : Matching) → InRange m.fields → big_number 2 (drop 18 (spelled m)) ≡ m.fields.dl_vlan
-unfolding spelled
-dl_vlan-read m r = big_number-reads_back 2 m.fields.dl_vlan (drop 20 (spelled m)) r.dl_vlan
-
-dl_type-read : (m : Matching) → InRange m.fields → big_number 2 (drop 22 (spelled m)) ≡ m.fields.dl_type
-unfolding spelled
-dl_type-read m r = big_number-reads_back 2 m.fields.dl_type (drop 24 (spelled m)) r.dl_type
-
-nw_src-read : (m : Matching) → InRange m.fields → big_number 4 (drop 28 (spelled m)) ≡ m.fields.nw_src
-unfolding spelled
-nw_src-read m r = big_number-reads_back 4 m.fields.nw_src (drop 32 (spelled m)) r.nw_src
-
-nw_dst-read : (m : Matching) → InRange m.fields → big_number 4 (drop 32 (spelled m)) ≡ m.fields.nw_dst
-unfolding spelled
-nw_dst-read m r = big_number-reads_back 4 m.fields.nw_dst (drop 36 (spelled m)) r.nw_dst
-
-tp_src-read : (m : Matching) → InRange m.fields → big_number 2 (drop 36 (spelled m)) ≡ m.fields.tp_src
-unfolding spelled
-tp_src-read m r = big_number-reads_back 2 m.fields.tp_src (drop 38 (spelled m)) r.tp_src
-
-tp_dst-read : (m : Matching) → InRange m.fields → big_number 2 (drop 38 (spelled m)) ≡ m.fields.tp_dst
-unfolding spelled
-tp_dst-read m r = big_number-reads_back 2 m.fields.tp_dst (drop 40 (spelled m)) r.tp_dst
-
-dl_vlan_pcp-read : (m : Matching) → slice_index (spelled m) 20 ≡ m.fields.dl_vlan_pcp
-unfolding spelled
-dl_vlan_pcp-read m = refl
-
-nw_tos-read : (m : Matching) → slice_index (spelled m) 24 ≡ m.fields.nw_tos
-unfolding spelled
-nw_tos-read m = refl
-
-nw_proto-read : (m : Matching) → slice_index (spelled m) 25 ≡ m.fields.nw_proto
-unfolding spelled
-nw_proto-read m = refl
+read m r = record {
+  in_port = big_number-reads_back 2 m.fields.in_port (drop 6 (spelled m)) r.in_port;
+  dl_src = big_number-reads_back 6 m.fields.dl_src (drop 12 (spelled m)) r.dl_src;
+  dl_dst = big_number-reads_back 6 m.fields.dl_dst (drop 18 (spelled m)) r.dl_dst;
+  dl_vlan = big_number-reads_back 2 m.fields.dl_vlan (drop 20 (spelled m)) r.dl_vlan;
+  dl_type = big_number-reads_back 2 m.fields.dl_type (drop 24 (spelled m)) r.dl_type;
+  nw_src = big_number-reads_back 4 m.fields.nw_src (drop 32 (spelled m)) r.nw_src;
+  nw_dst = big_number-reads_back 4 m.fields.nw_dst (drop 36 (spelled m)) r.nw_dst;
+  tp_src = big_number-reads_back 2 m.fields.tp_src (drop 38 (spelled m)) r.tp_src;
+  tp_dst = big_number-reads_back 2 m.fields.tp_dst (drop 40 (spelled m)) r.tp_dst;
+  dl_vlan_pcp = refl;
+  nw_tos = refl;
+  nw_proto = refl;
+}
 
 fields-read : (m : Matching) → InRange m.fields → fields_of (spelled m) ≡ m.fields
 unfolding fields_of
 fields-read m r =
-    simp (
-      in_port-read m r,
-      dl_src-read m r,
-      dl_dst-read m r,
-      dl_vlan-read m r,
-      dl_type-read m r,
-      nw_src-read m r,
-      nw_dst-read m r,
-      tp_src-read m r,
-      tp_dst-read m r,
-      dl_vlan_pcp-read m,
-      nw_tos-read m,
-      nw_proto-read m,
-    )
+    let t : Read m = read m r in
+    simp (t.in_port, t.dl_src, t.dl_dst, t.dl_vlan, t.dl_vlan_pcp, t.dl_type, t.nw_tos, t.nw_proto, t.nw_src, t.nw_dst, t.tp_src, t.tp_dst)
 
 pub match-read : (m : Matching) → IsNormal m → match_of (spelled m) ≡ m
 unfolding match_of

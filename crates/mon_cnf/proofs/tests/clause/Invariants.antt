@@ -1,5 +1,0 @@
-use Rattle.mon_cnf.specs.Truth.{Within}
-use Rattle.mon_cnf.proofs.tests.clause.Given as goal
-
-abbrev pub invariant-loop-literal : goal.invariant-loop-literal
-invariant-loop-literal l = Within l.vars l.clause
