@@ -1,7 +1,7 @@
 //! Files that were written by hand.
 
 use super::*;
-use mon_header::{Header, same_header};
+use mon_header::{DATAGRAM, Header, same_header};
 use mon_outcome::{Emission, same_emission};
 use mon_refute::Logs;
 use std::alloc::Global;
@@ -9,18 +9,10 @@ use std::test::Fail;
 
 /// A datagram from 10.0.0.1 to 10.0.0.2 that came in at port 1 with the tag 100.
 const BEFORE: Header = Header {
-    in_port: 1,
-    dl_src: 0x020000000001,
-    dl_dst: 0x020000000002,
-    dl_vlan: 100,
     dl_vlan_pcp: 3,
-    dl_type: 0x0800,
-    nw_tos: 0,
-    nw_proto: 17,
-    nw_src: 0x0a000001,
-    nw_dst: 0x0a000002,
     tp_src: 1000,
     tp_dst: 2000,
+    ..DATAGRAM
 };
 
 const AFTER: Header = Header {

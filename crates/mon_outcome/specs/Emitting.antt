@@ -4,6 +4,7 @@ use Rattle.mon_header.specs.declared.class.Class.{Class}
 use Rattle.mon_header.specs.declared.header.Header.{Header}
 use Rattle.mon_header.specs.declared.action.Action.{Action}
 use Rattle.mon_header.specs.declared.action.Action.TheVariants.{Output, SetVlanVid, SetVlanPcp, StripVlan, SetDlSrc, SetDlDst, SetNwSrc, SetNwDst, SetNwTos, SetTpSrc, SetTpDst, Enqueue, Unknown}
+use Rattle.mon_header.specs.Assigned.{LAST_PORT, IN_PORT, CONTROLLER_PORT}
 use Rattle.mon_header.specs.Classes.{is_in_class}
 use Rattle.mon_header.specs.Same.{same_header}
 use Rattle.mon_outcome.specs.declared.door.Door.{Door}
@@ -14,12 +15,12 @@ use Rattle.mon_outcome.specs.Acting.{act}
 
 -- a port of the switch, not one of the reserved numbers
 abbrev pub is_port : ℕ → Bool
-is_port port = nat_le port 0xff00
+is_port port = nat_le port LAST_PORT
 
 -- what a switch does by this action isn't known: it leaves by a reserved port other than IN_PORT and CONTROLLER, or
 -- the standard has no such action
 abbrev pub is_unknown : Action → Bool
-is_unknown (Output port max_len) = not (is_port port || ((port == 0xfff8) || (port == 0xfffd)))
+is_unknown (Output port max_len) = not (is_port port || ((port == IN_PORT) || (port == CONTROLLER_PORT)))
 is_unknown (SetVlanVid vid) = false
 is_unknown (SetVlanPcp pcp) = false
 is_unknown StripVlan = false
@@ -30,7 +31,7 @@ is_unknown (SetNwDst address) = false
 is_unknown (SetNwTos tos) = false
 is_unknown (SetTpSrc port) = false
 is_unknown (SetTpDst port) = false
-is_unknown (Enqueue port queue) = not (is_port port || (port == 0xfff8))
+is_unknown (Enqueue port queue) = not (is_port port || (port == IN_PORT))
 is_unknown (Unknown bytes) = true
 
 -- some action is unknown
@@ -43,13 +44,13 @@ any_unknown (action ∷ actions) = is_unknown action || any_unknown actions
 abbrev pub port_door : ℕ → ℕ → Option Door
 port_door port in_port =
     if is_port port then (if port == in_port then None else Some (door.Port port))
-    else (if port == 0xfff8 then Some (door.Port in_port) else None)
+    else (if port == IN_PORT then Some (door.Port in_port) else None)
 
 -- the door by which an action emits a packet that came in at `in_port`, where that is known; the controller gets the
 -- whole packet where it takes 128 bytes or more
 abbrev pub door_of : Action → ℕ → Option Door
 door_of (Output port max_len) in_port =
-    if port == 0xfffd then Some (door.Controller (nat_le 128 max_len)) else port_door port in_port
+    if port == CONTROLLER_PORT then Some (door.Controller (nat_le 128 max_len)) else port_door port in_port
 door_of (SetVlanVid vid) in_port = None
 door_of (SetVlanPcp pcp) in_port = None
 door_of StripVlan in_port = None

@@ -5,6 +5,7 @@ use Rattle.mon_header.specs.declared.class.Class.TheVariants.{Tcp, Udp, Icmp, Ot
 use Rattle.mon_header.specs.declared.header.Header.{Header}
 use Rattle.mon_header.specs.declared.action.Action.{Action}
 use Rattle.mon_header.specs.declared.action.Action.TheVariants.{Output, SetVlanVid, SetVlanPcp, StripVlan, SetDlSrc, SetDlDst, SetNwSrc, SetNwDst, SetNwTos, SetTpSrc, SetTpDst, Enqueue, Unknown}
+use Rattle.mon_header.specs.Assigned.{VLAN_IDS, UNTAGGED}
 use Rattle.mon_header.specs.Classes.{is_in_class}
 use Rattle.mon_outcome.specs.declared.door.Door.{Door}
 use Rattle.mon_outcome.specs.declared.rewrite.Rewrite.{Rewrite}
@@ -32,7 +33,7 @@ copied = record {
 -- the tag was taken off
 abbrev pub is_stripped : Option ℕ → Bool
 is_stripped None = false
-is_stripped (Some vlan) = vlan == 0xffff
+is_stripped (Some vlan) = vlan == UNTAGGED
 
 -- headers of the class are IPv4
 abbrev pub is_ipv4_class : Class → Bool
@@ -56,10 +57,10 @@ has_class_ports Arp = false
 abbrev pub rewritten : Class → Action → Rewrite → Rewrite
 rewritten c (Output port max_len) r = r
 rewritten c (SetVlanVid vid) r =
-    record r { dl_vlan = Some (vid % 4096); dl_vlan_pcp = if is_stripped r.dl_vlan then Some 0 else r.dl_vlan_pcp }
+    record r { dl_vlan = Some (vid % VLAN_IDS); dl_vlan_pcp = if is_stripped r.dl_vlan then Some 0 else r.dl_vlan_pcp }
 rewritten c (SetVlanPcp pcp) r =
     record r { dl_vlan = if is_stripped r.dl_vlan then Some 0 else r.dl_vlan; dl_vlan_pcp = Some (pcp % 8) }
-rewritten c StripVlan r = record r { dl_vlan = Some 0xffff; dl_vlan_pcp = Some 0 }
+rewritten c StripVlan r = record r { dl_vlan = Some UNTAGGED; dl_vlan_pcp = Some 0 }
 rewritten c (SetDlSrc address) r = record r { dl_src = Some address }
 rewritten c (SetDlDst address) r = record r { dl_dst = Some address }
 rewritten c (SetNwSrc address) r = record r { nw_src = if is_ipv4_class c then Some address else r.nw_src }
@@ -92,5 +93,5 @@ emitted_by h shape = through shape.door (filled shape.bits h)
 -- for each tagged header of the class that came in at the port, the shapes are its emissions, in order
 abbrev pub AreEmissions : List Shape → List Action → Class → ℕ → Type 0
 AreEmissions shapes actions c in_port =
-    (h : Header) → is_in_class c h ≡ true → h.in_port ≡ in_port → h.dl_vlan ≢ 0xffff
+    (h : Header) → is_in_class c h ≡ true → h.in_port ≡ in_port → h.dl_vlan ≢ UNTAGGED
     → map (emitted_by h) shapes ≡ emissions actions h

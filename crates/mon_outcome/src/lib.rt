@@ -25,4 +25,4 @@ pub use laws::{
 pub use mon_header::{Class, OutOfMemory};
 pub use outcome::{emission_at, may, must};
 pub use rewrite::{Bit, Rewrite};
-pub use shape::{Shape, Shapes, rewrites};
+pub use shape::{COPIED, Shape, Shapes, rewrites};

@@ -19,25 +19,21 @@ pub struct Shape {
 /// Shapes, in order.
 pub type Shapes = Items<Shape>;
 
-/// Nothing is fixed.
-fn copied() -> Rewrite
-    ensures { result ≡ copied }
-{
-    Rewrite {
-        in_port: None,
-        dl_src: None,
-        dl_dst: None,
-        dl_vlan: None,
-        dl_vlan_pcp: None,
-        dl_type: None,
-        nw_tos: None,
-        nw_proto: None,
-        nw_src: None,
-        nw_dst: None,
-        tp_src: None,
-        tp_dst: None,
-    }
-}
+/// A rewrite that copies each field.
+pub const COPIED: Rewrite = Rewrite {
+    in_port: None,
+    dl_src: None,
+    dl_dst: None,
+    dl_vlan: None,
+    dl_vlan_pcp: None,
+    dl_type: None,
+    nw_tos: None,
+    nw_proto: None,
+    nw_src: None,
+    nw_dst: None,
+    tp_src: None,
+    tp_dst: None,
+};
 
 /// Whether the tag was taken off.
 fn is_stripped(vlan: Option<u16>) -> bool
@@ -155,7 +151,7 @@ pub fn rewrites(
     ensures emissions { IfOk result (λ shapes. AreEmissions shapes a.now class in_port) }
 {
     let mut shapes = Items::new(alloc);
-    let mut bits = copied();
+    let mut bits = COPIED;
     for action in a.items() {
         if let Some(door) = door_of(action, in_port) {
             shapes.push(Shape { door, bits })?;

@@ -13,18 +13,8 @@ use std::test::Fail;
 
 /// A datagram from 10.0.0.1 to 10.0.0.2 on port 1, with the tag 100.
 const DATAGRAM: Header = Header {
-    in_port: 1,
-    dl_src: 0x020000000001,
-    dl_dst: 0x020000000002,
-    dl_vlan: 100,
     dl_vlan_pcp: 3,
-    dl_type: 0x0800,
-    nw_tos: 0,
-    nw_proto: 17,
-    nw_src: 0x0a000001,
-    nw_dst: 0x0a000002,
-    tp_src: 1,
-    tp_dst: 2,
+    ..mon_header::DATAGRAM
 };
 
 /// Whether the action makes the second header of the first.

@@ -12,7 +12,7 @@ use Rattle.mon_packet.specs.declared.ethernet.Ethernet.{Ethernet}
 use Rattle.mon_packet.specs.declared.transport.Transport.{Transport}
 use Rattle.mon_packet.specs.Frames.{payload, ipv4_header, tcp_header, udp_header, icmp_header}
 use Rattle.mon_fields.specs.Fields.{number_at}
-use Rattle.mon_packet.specs.Reading.{total_of, nonce_of, is_ipv4, tcp_of, udp_of, icmp_of, transport_of, ipv4_fields, with_transport, packet_of}
+use Rattle.mon_packet.specs.Reading.{total_of, nonce_of, is_ipv4, tcp_of, udp_of, icmp_of, transport_of, plain_header, ipv4_fields, with_transport, packet_of}
 use Rattle.mon_packet.proofs.Choosing.{if-true}
 
 pub record IsNonce (n : Nonce) : Type 0 where
@@ -65,24 +65,20 @@ proto-read h size sum rest = refl
 
 -- the header that a packet and its frame show
 abbrev pub shown : Ethernet → Header → Transport → Header
-shown e h t = record {
+shown e h t = record h {
   in_port = 0;
   dl_src = e.dl_src;
   dl_dst = e.dl_dst;
   dl_vlan = e.dl_vlan;
   dl_vlan_pcp = e.dl_vlan_pcp;
   dl_type = e.dl_type;
-  nw_tos = h.nw_tos;
-  nw_proto = h.nw_proto;
-  nw_src = h.nw_src;
-  nw_dst = h.nw_dst;
   tp_src = t.tp_src;
   tp_dst = t.tp_dst;
 }
 
 fields-read : (e : Ethernet) (t : Transport) (h : Header) (size sum : ℕ) (rest : List ℕ) → InRange h → h.nw_tos % 4 ≡ 0
     → ipv4_fields e t (ipv4_header h size sum ++ rest) ≡ shown e h t
-unfolding ipv4_fields
+unfolding ipv4_fields plain_header
 fields-read e t h size sum rest r low =
     let tos : slice_index (ipv4_header h size sum ++ rest) 1 / 4 * 4 ≡ h.nw_tos = rw (tos-read h size sum rest) (omega arith) in
     simp (tos, proto-read h size sum rest, src-read h size sum rest r.nw_src, dst-read h size sum rest r.nw_dst)

@@ -2,6 +2,7 @@
 use Rattle.std.specs.Prelude.{ℕ, ◌+◌, ◌*◌, ◌-◌, ◌==◌, if◌then◌else◌, List, [], ◌∷◌, ◌++◌, length, replicate}
 use Rattle.byteorder.specs.Endian.{big_bytes}
 use Rattle.mon_header.specs.declared.header.Header.{Header}
+use Rattle.mon_header.specs.Assigned.{IPV4_TYPE, ARP_TYPE, TAG_TYPE, ICMP_PROTOCOL, TCP_PROTOCOL, UDP_PROTOCOL, UNTAGGED}
 use Rattle.mon_packet.specs.declared.nonce.Nonce.{Nonce}
 use Rattle.mon_packet.specs.Sums.{checksum, not_zero}
 
@@ -14,12 +15,12 @@ unfoldable pub ethernet_header : Header → List ℕ
 ethernet_header h =
     big_bytes 6 h.dl_dst
     ++ (big_bytes 6 h.dl_src
-    ++ (if h.dl_vlan == 0xffff then big_bytes 2 h.dl_type
-    else big_bytes 2 0x8100 ++ (big_bytes 2 (h.dl_vlan_pcp * 8192 + h.dl_vlan) ++ big_bytes 2 h.dl_type)))
+    ++ (if h.dl_vlan == UNTAGGED then big_bytes 2 h.dl_type
+    else big_bytes 2 TAG_TYPE ++ (big_bytes 2 (h.dl_vlan_pcp * 8192 + h.dl_vlan) ++ big_bytes 2 h.dl_type)))
 
 -- its count of bytes
 abbrev pub ethernet_size : Header → ℕ
-ethernet_size h = if h.dl_vlan == 0xffff then 14 else 18
+ethernet_size h = if h.dl_vlan == UNTAGGED then 14 else 18
 
 -- the header of an IPv4 packet with so many bytes behind it, and this checksum
 unfoldable pub ipv4_header : Header → ℕ → ℕ → List ℕ
@@ -64,14 +65,14 @@ icmp_sum h n = checksum (icmp_header h 0 ++ payload n)
 -- what stands between the header of IPv4 and the payload
 unfoldable pub transport_header : Header → Nonce → List ℕ
 transport_header h n =
-    if h.nw_proto == 6 then tcp_header h (tcp_sum h n)
-    else (if h.nw_proto == 17 then udp_header h (udp_sum h n)
-    else (if h.nw_proto == 1 then icmp_header h (icmp_sum h n)
+    if h.nw_proto == TCP_PROTOCOL then tcp_header h (tcp_sum h n)
+    else (if h.nw_proto == UDP_PROTOCOL then udp_header h (udp_sum h n)
+    else (if h.nw_proto == ICMP_PROTOCOL then icmp_header h (icmp_sum h n)
     else []))
 
 -- its count of bytes
 abbrev pub transport_size : Header → ℕ
-transport_size h = if h.nw_proto == 6 then 20 else (if h.nw_proto == 17 then 8 else (if h.nw_proto == 1 then 8 else 0))
+transport_size h = if h.nw_proto == TCP_PROTOCOL then 20 else (if h.nw_proto == UDP_PROTOCOL then 8 else (if h.nw_proto == ICMP_PROTOCOL then 8 else 0))
 
 -- the headers of IPv4 and of what it carries
 unfoldable pub network_headers : Header → Nonce → List ℕ
@@ -83,7 +84,7 @@ network_headers h n =
 unfoldable pub arp_packet : Header → List ℕ
 arp_packet h =
     big_bytes 2 1
-    ++ (big_bytes 2 0x0800
+    ++ (big_bytes 2 IPV4_TYPE
     ++ (6 ∷ 4
     ∷ (big_bytes 2 h.nw_proto
     ++ (0 ∷ 0 ∷ 0 ∷ 0 ∷ 0 ∷ 0
@@ -94,8 +95,8 @@ arp_packet h =
 -- what follows the header of Ethernet
 unfoldable pub body : Header → Nonce → List ℕ
 body h n =
-    if h.dl_type == 0x0800 then network_headers h n ++ payload n
-    else (if h.dl_type == 0x0806 then arp_packet h ++ payload n
+    if h.dl_type == IPV4_TYPE then network_headers h n ++ payload n
+    else (if h.dl_type == ARP_TYPE then arp_packet h ++ payload n
     else payload n)
 
 -- zeros up to 64 bytes

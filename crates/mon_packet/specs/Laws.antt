@@ -2,6 +2,7 @@
 use Rattle.std.specs.Prelude.{◌≡◌, ◌≢◌, ℕ, ◌<◌, ◌^◌, ◌-◌, true, List, ◌∷◌, ◌++◌, drop, take, slice_index, Some}
 use Rattle.byteorder.specs.Endian.{big_bytes}
 use Rattle.mon_header.specs.declared.header.Header.{Header}
+use Rattle.mon_header.specs.Assigned.{IPV4_TYPE, ICMP_PROTOCOL, TCP_PROTOCOL, UDP_PROTOCOL}
 use Rattle.mon_header.specs.Classes.{in_class}
 use Rattle.mon_packet.specs.declared.nonce.Nonce.{Nonce}
 use Rattle.mon_packet.specs.Sums.{sum_of}
@@ -25,10 +26,10 @@ pseudo_of packet = drop 12 (take 20 packet) ++ (0 ∷ slice_index packet 9 ∷ b
 -- a receiver's sums over a packet of IPv4: with the right checksum all bits of a sum are set; a datagram has a checksum
 pub record HasRightSums (packet : List ℕ) : Type 0 where
   pub header : sum_of (take 20 packet) ≡ 0xffff
-  pub tcp : slice_index packet 9 ≡ 6 → sum_of (pseudo_of packet ++ segment_of packet) ≡ 0xffff
-  pub udp : slice_index packet 9 ≡ 17 → sum_of (pseudo_of packet ++ segment_of packet) ≡ 0xffff
-  pub udp_has_one : slice_index packet 9 ≡ 17 → number_at 2 26 packet ≢ 0
-  pub icmp : slice_index packet 9 ≡ 1 → sum_of (segment_of packet) ≡ 0xffff
+  pub tcp : slice_index packet 9 ≡ TCP_PROTOCOL → sum_of (pseudo_of packet ++ segment_of packet) ≡ 0xffff
+  pub udp : slice_index packet 9 ≡ UDP_PROTOCOL → sum_of (pseudo_of packet ++ segment_of packet) ≡ 0xffff
+  pub udp_has_one : slice_index packet 9 ≡ UDP_PROTOCOL → number_at 2 26 packet ≢ 0
+  pub icmp : slice_index packet 9 ≡ ICMP_PROTOCOL → sum_of (segment_of packet) ≡ 0xffff
 
 -- the packet of IPv4 in a rendered frame
 abbrev pub packet_in : Header → Nonce → List ℕ
@@ -36,4 +37,4 @@ packet_in h n = drop (ethernet_size h) (rendered h n)
 
 -- a frame of IPv4 has right checksums
 abbrev pub IsChecked : Header → Nonce → Type 0
-IsChecked h n = in_class h ≡ true → h.dl_type ≡ 0x0800 → HasRightSums (packet_in h n)
+IsChecked h n = in_class h ≡ true → h.dl_type ≡ IPV4_TYPE → HasRightSums (packet_in h n)

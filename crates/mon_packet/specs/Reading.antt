@@ -2,6 +2,7 @@
 use Rattle.std.specs.Prelude.{ℕ, ◌*◌, ◌-◌, ◌/◌, ◌%◌, Bool, not, ◌==◌, nat_le, ◌&&◌, if◌then◌else◌, List, drop, take, length, slice_index, Option, Some, None}
 use Rattle.mon_fields.specs.Fields.{number_at}
 use Rattle.mon_header.specs.declared.header.Header.{Header}
+use Rattle.mon_header.specs.Assigned.{LEAST_TYPE, IPV4_TYPE, ARP_TYPE, TAG_TYPE, SERVICE_TAG_TYPE, ICMP_PROTOCOL, TCP_PROTOCOL, UDP_PROTOCOL, VLAN_IDS, UNTAGGED}
 use Rattle.mon_packet.specs.declared.nonce.Nonce.{Nonce}
 use Rattle.mon_packet.specs.declared.ethernet.Ethernet.{Ethernet}
 use Rattle.mon_packet.specs.declared.transport.Transport.{Transport}
@@ -15,7 +16,7 @@ nonce_of payload =
 
 -- a type at this place, and neither a length nor a further tag
 abbrev pub is_type : ℕ → Bool
-is_type n = nat_le 0x0600 n && (not (n == 0x8100) && not (n == 0x88a8))
+is_type n = nat_le LEAST_TYPE n && (not (n == TAG_TYPE) && not (n == SERVICE_TAG_TYPE))
 
 -- the header of Ethernet with its type just before this place, and this tag
 abbrev pub typed : List ℕ → ℕ → ℕ → ℕ → Option Ethernet
@@ -34,9 +35,9 @@ typed bytes vlan pcp end =
 -- the header of Ethernet, with at most one tag, of which one bit is ignored
 unfoldable pub ethernet_of : List ℕ → Option Ethernet
 ethernet_of bytes =
-    if nat_le 16 (length bytes) && (number_at 2 12 bytes == 0x8100)
-    then typed bytes (number_at 2 14 bytes % 4096) (number_at 2 14 bytes / 8192) 18
-    else typed bytes 0xffff 0 14
+    if nat_le 16 (length bytes) && (number_at 2 12 bytes == TAG_TYPE)
+    then typed bytes (number_at 2 14 bytes % VLAN_IDS) (number_at 2 14 bytes / 8192) 18
+    else typed bytes UNTAGGED 0 14
 
 -- the total length that a packet of IPv4 says
 abbrev pub total_of : List ℕ → ℕ
@@ -75,9 +76,9 @@ icmp_of packet =
 -- what stands between the header of IPv4 and the payload
 unfoldable pub transport_of : ℕ → List ℕ → Option Transport
 transport_of protocol packet =
-    if protocol == 6 then tcp_of packet
-    else (if protocol == 17 then udp_of packet
-    else (if protocol == 1 then icmp_of packet
+    if protocol == TCP_PROTOCOL then tcp_of packet
+    else (if protocol == UDP_PROTOCOL then udp_of packet
+    else (if protocol == ICMP_PROTOCOL then icmp_of packet
     else Some (record { tp_src = 0; tp_dst = 0; end = 20 })))
 
 -- the header of a frame of another type than IPv4 and ARP
@@ -99,13 +100,7 @@ plain_header e = record {
 
 -- the header of a frame of IPv4
 unfoldable pub ipv4_fields : Ethernet → Transport → List ℕ → Header
-ipv4_fields e t packet = record {
-  in_port = 0;
-  dl_src = e.dl_src;
-  dl_dst = e.dl_dst;
-  dl_vlan = e.dl_vlan;
-  dl_vlan_pcp = e.dl_vlan_pcp;
-  dl_type = e.dl_type;
+ipv4_fields e t packet = record (plain_header e) {
   nw_tos = slice_index packet 1 / 4 * 4;
   nw_proto = slice_index packet 9;
   nw_src = number_at 4 12 packet;
@@ -119,7 +114,7 @@ unfoldable pub is_arp : List ℕ → Bool
 is_arp packet =
     nat_le 28 (length packet)
     && ((number_at 2 0 packet == 1)
-    && ((number_at 2 2 packet == 0x0800)
+    && ((number_at 2 2 packet == IPV4_TYPE)
     && ((slice_index packet 4 == 6)
     && (slice_index packet 5 == 4))))
 
@@ -152,8 +147,8 @@ arp_of e packet = if is_arp packet then Some (arp_fields e packet, nonce_of (dro
 abbrev pub with_ethernet : List ℕ → Option Ethernet → Read
 with_ethernet bytes None = None
 with_ethernet bytes (Some e) =
-    if e.dl_type == 0x0800 then packet_of e (drop e.size bytes)
-    else (if e.dl_type == 0x0806 then arp_of e (drop e.size bytes)
+    if e.dl_type == IPV4_TYPE then packet_of e (drop e.size bytes)
+    else (if e.dl_type == ARP_TYPE then arp_of e (drop e.size bytes)
     else Some (plain_header e, nonce_of (drop e.size bytes)))
 
 -- the header and the nonce of a frame; the port at which it came in is not in it

@@ -40,24 +40,19 @@ fn plain_header(e: Ethernet) -> Header
 }
 
 /// The header of a frame of IPv4.
-#[tactic(auto, unfolding(crate::specs::Reading::ipv4_fields))]
+#[tactic(auto, unfolding(crate::specs::Reading::ipv4_fields, crate::specs::Reading::plain_header))]
 fn ipv4_fields(e: Ethernet, t: Transport, packet: &[u8]) -> Header
     requires { 20 ≤ length packet.now }
     ensures { result ≡ ipv4_fields e t packet.now }
 {
     Header {
-        in_port: 0,
-        dl_src: e.dl_src,
-        dl_dst: e.dl_dst,
-        dl_vlan: e.dl_vlan,
-        dl_vlan_pcp: e.dl_vlan_pcp,
-        dl_type: e.dl_type,
         nw_tos: packet[1] / 4 * 4,
         nw_proto: packet[9],
         nw_src: u32_at(packet, 12),
         nw_dst: u32_at(packet, 16),
         tp_src: t.tp_src,
         tp_dst: t.tp_dst,
+        ..plain_header(e)
     }
 }
 

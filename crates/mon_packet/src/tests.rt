@@ -3,7 +3,7 @@
 use crate::nonce::Nonce;
 use crate::reading::parse;
 use crate::writing::render;
-use mon_header::{BLANK, Header, in_class, same_header};
+use mon_header::{BLANK, DATAGRAM, Header, in_class, same_header};
 use std::alloc::Global;
 use std::test::Fail;
 
@@ -14,18 +14,6 @@ const PLAIN: Header = Header {
     dl_vlan: 100,
     dl_type: 0x88b5,
     ..BLANK
-};
-
-/// A datagram from 10.0.0.1 to 10.0.0.2 with the tag 100, on port 1.
-const DATAGRAM: Header = Header {
-    in_port: 1,
-    dl_type: 0x0800,
-    nw_proto: 17,
-    nw_src: 0x0a000001,
-    nw_dst: 0x0a000002,
-    tp_src: 1,
-    tp_dst: 2,
-    ..PLAIN
 };
 
 /// A segment with another tag, and a type of service.

@@ -245,3 +245,6 @@ twin-never v t r old h e own same =
     never (craftable v h) (must_show (with_update t (Put r (Some old))) h e) (caught v e) (may_show (without_update t (Put r (Some old))) h e)
     (λ y. under-shows h (with_update t (Put r (Some old))) (without_update t (Put r (Some old))) e (twin-under t r old (old.unsure || r.unsure) h own same)
     (must-may-show (with_update t (Put r (Some old))) h e y))
+
+-- the law
+pub ruleset showing = (under-shows, left-under, must-may-show)

@@ -10,6 +10,7 @@ use Rattle.mon_outcome.specs.declared.emission.Emission.TheVariants.{Port, Contr
 use Rattle.mon_shows.specs.declared.near.Near.{Near}
 use Rattle.mon_shows.specs.declared.seen.Seen.{Seen}
 use Rattle.mon_shows.specs.Links.{PortsAscend, link_at}
+use Rattle.mon_topo.specs.Ascending.{LAST_VID}
 
 -- a switch, its tag, the tags in use, its links, and how many bytes of a miss its controller gets
 pub record Viewing : Type 0 where
@@ -22,7 +23,7 @@ pub record Viewing : Type 0 where
 -- what each view keeps: a VLAN id that a tag may bear (IEEE 802.1Q), and links by ascending port
 pub record IsView (v : Viewing) : Type 0 where
   pub tag_low : 1 ≤ v.tag
-  pub tag_high : v.tag ≤ 4094
+  pub tag_high : v.tag ≤ LAST_VID
   pub ascending : PortsAscend 0 v.links
 
 -- one of the links is at this port

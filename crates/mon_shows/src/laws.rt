@@ -40,6 +40,7 @@ pub fn an_update_is_an_edit()
 
 /// What a table may show of a header, one that it is under may show. What is left of a table where unsure rules are gone
 /// is under the whole.
+#[tactic(auto, using(crate::proofs::Showing::showing))]
 pub fn what_is_under_shows_no_more()
     ensures shown { (h : Header) (t u : List Rule) (e : Emission) → Under h t u → IsTrue (may_show t h e) → IsTrue (may_show u h e) }
     ensures gone { (t : List Rule) (goes : Rule → Bool) (h : Header) → Under h (left goes t) t }

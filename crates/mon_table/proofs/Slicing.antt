@@ -96,3 +96,6 @@ slice-tied (s ∷ t) r =
       | true ↦ λ e. ap (λ (b : Bool). ties r s || b) (slice-tied t r)
       | false ↦ λ e. slice-tied t r ∙ ap (λ (b : Bool). b || list_any (ties r) t) (sym (no-tie r s e))
     ] refl
+
+-- the law
+pub ruleset slicing = (slice-winners, slice-edited, slice-misses, slice-misses-edited, slice-tied)

@@ -66,6 +66,7 @@ pub fn what_none_wins_may_miss()
 
 /// The rules that overlap a match say all that the table says: who wins for a header that the match takes and whether it
 /// may miss, both of these after an edit, and whether a rule with that match is tied.
+#[tactic(auto, using(crate::proofs::Slicing::slicing))]
 pub fn a_slice_says_the_same()
     ensures winners { (t : List Rule) (m : Matching) (h : Header) → InOrder t → IsTrue (matches m h) → winners (slice m t) h ≡ winners t h }
     ensures edited { (t : List Rule) (m : Matching) (h : Header) (x : Edit) → IsTable t → IsNormal (edited x).matching → IsTrue (matches m h) → winners (after (slice m t) x) h ≡ winners (after t x) h }

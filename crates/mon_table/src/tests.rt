@@ -3,27 +3,12 @@
 use crate::edit::Edit;
 use crate::rule::Rule;
 use crate::table::Table;
-use mon_header::{Action, Actions, BLANK, Header, Match, OutOfMemory};
+use mon_header::{Action, Actions, BLANK, DATAGRAM, Header, Match, OutOfMemory};
 use std::alloc::Global;
 use std::test::Fail;
 
-/// A UDP packet from 10.0.0.1 to 10.0.0.2 on port 1.
-const PACKET: Header = Header {
-    in_port: 1,
-    dl_src: 0x020000000001,
-    dl_dst: 0x020000000002,
-    dl_vlan: 100,
-    dl_type: 0x0800,
-    nw_proto: 17,
-    nw_src: 0x0a000001,
-    nw_dst: 0x0a000002,
-    tp_src: 1,
-    tp_dst: 2,
-    ..BLANK
-};
-
 fn exact() -> Match {
-    Match::normal(0, PACKET)
+    Match::normal(0, DATAGRAM)
 }
 
 /// All packets that come in at this port.
@@ -145,12 +130,12 @@ fn lookups_give_all_that_they_name(rt: HostRuntime) -> Result<(), Fail> {
     assert!(rt; !table.tied(&rule(alloc, to_8(), 50000, 2)?));
     assert!(rt; !table.tied(&rule(alloc, any_ipv4(), 50, 2)?));
     // The entry without wildcards wins, whatever its priority field; then the higher one; then all three alike.
-    assert_eq!(rt; table.winners(alloc, &PACKET)?.as_slice(), [0].as_slice());
+    assert_eq!(rt; table.winners(alloc, &DATAGRAM)?.as_slice(), [0].as_slice());
     assert!(rt; table.cut(&exact(), 9)?.is_some());
-    assert_eq!(rt; table.winners(alloc, &PACKET)?.as_slice(), [0].as_slice());
+    assert_eq!(rt; table.winners(alloc, &DATAGRAM)?.as_slice(), [0].as_slice());
     assert!(rt; table.cut(&port_1(), 65000)?.is_some());
     assert_eq!(rt;
-        table.winners(alloc, &PACKET)?.as_slice(),
+        table.winners(alloc, &DATAGRAM)?.as_slice(),
         [0, 1, 2].as_slice()
     );
     assert_eq!(rt; table.winners(alloc, &BLANK)?.len(), 0);
@@ -193,27 +178,27 @@ fn unsure(alloc: Global, matching: Match, priority: u16) -> Result<Rule, OutOfMe
 fn unsure_rules_hide_nothing(rt: HostRuntime) -> Result<(), Fail> {
     let alloc = rt.alloc();
     let mut table = Table::new(alloc);
-    assert!(rt; table.may_miss(&PACKET));
+    assert!(rt; table.may_miss(&DATAGRAM));
     let _ = table.put(unsure(alloc, port_1(), 200)?)?;
     let _ = table.put(unsure(alloc, to_24(), 100)?)?;
     let _ = table.put(rule(alloc, to_8(), 100, 2)?)?;
     let _ = table.put(rule(alloc, any_ipv4(), 50, 2)?)?;
     // Both unsure rules may be gone, and the sure one of priority 100 hides the last.
     assert_eq!(rt;
-        table.winners(alloc, &PACKET)?.as_slice(),
+        table.winners(alloc, &DATAGRAM)?.as_slice(),
         [0, 1, 2].as_slice()
     );
     assert!(rt; table.cut(&to_8(), 100)?.is_some());
     assert_eq!(rt;
-        table.winners(alloc, &PACKET)?.as_slice(),
+        table.winners(alloc, &DATAGRAM)?.as_slice(),
         [0, 1, 2].as_slice()
     );
-    assert!(rt; !table.may_miss(&PACKET));
+    assert!(rt; !table.may_miss(&DATAGRAM));
     assert!(rt; table.cut(&any_ipv4(), 50)?.is_some());
     assert_eq!(rt;
-        table.winners(alloc, &PACKET)?.as_slice(),
+        table.winners(alloc, &DATAGRAM)?.as_slice(),
         [0, 1].as_slice()
     );
-    assert!(rt; table.may_miss(&PACKET));
+    assert!(rt; table.may_miss(&DATAGRAM));
     Ok(())
 }
