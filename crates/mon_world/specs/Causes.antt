@@ -4,6 +4,8 @@ use Rattle.mon_world.specs.declared.desk.DeskFault.{DeskFault}
 use Rattle.mon_world.specs.declared.desk.DeskFault.TheVariants as desk
 use Rattle.mon_world.specs.declared.hub.HubFault.{HubFault}
 use Rattle.mon_world.specs.declared.hub.HubFault.TheVariants as hub
+use Rattle.mon_world.specs.declared.hub.PutFault.{PutFault}
+use Rattle.mon_world.specs.declared.hub.PutFault.TheVariants as put
 
 -- one more, or the last value of a count
 abbrev pub counted : ℕ → ℕ
@@ -22,3 +24,8 @@ pub record DeskCause {T : Type 0} (before now : ℕ) (result : Result T DeskFaul
 pub record HubCause {T : Type 0} (before now : ℕ) (result : Result T HubFault) : Type 0 where
   pub later : before ≤ now
   pub failed : IsErrOf result hub.Failed → Rose before now
+
+-- an output is lost only where the count rose, and the count never falls
+pub record PutCause {T : Type 0} (before now : ℕ) (result : Result T PutFault) : Type 0 where
+  pub later : before ≤ now
+  pub lost : IsErrOf result put.Lost → Rose before now

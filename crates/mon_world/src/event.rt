@@ -2,10 +2,15 @@
 
 ghost use Rattle.std.specs.Prelude.{◌≡◌, ◌≤◌, ◌<◌, List, ℕ, length, IfOk};
 
-use mon_list::OutOfMemory;
+use mon_list::{Items, OutOfMemory};
+use mon_outcome::Emission;
+use mon_report::Line;
 use of_frame::Frame;
 use std::alloc::Global;
 use std::marker::Model;
+
+/// The numbers of the sessions whose controller is not read for now, ascending.
+pub type Gates = Items<u64>;
 
 /// One of the two ends of a session.
 #[derive(Clone, Copy, Debug, PartialEq, Eq)]
@@ -60,6 +65,18 @@ pub enum Event {
         side: Side,
         bytes: Piece,
     },
+    /// One of the two connections of a session is gone.
+    Closed {
+        session: u64,
+    },
+    /// A tick of the clock.
+    Tick,
+    /// The unanswered job at this index, counted from 0 in the order of offers, is to be answered now.
+    Answer {
+        index: u32,
+    },
+    /// Nothing came.
+    Idle,
     /// The run is to end.
     Stop,
 }
@@ -77,4 +94,37 @@ pub enum Out {
     Close {
         session: u64,
     },
+}
+
+/// What was said of a job.
+#[derive(Clone, Copy, Debug, PartialEq, Eq)]
+pub enum Kind {
+    Probe,
+    Indistinguishable,
+    Skipped,
+}
+
+/// What the core tells of its work. Nothing goes out by it.
+#[derive(Clone, Copy, Debug)]
+pub enum Note {
+    /// A job was offered: for this edit of this session, or for a watch where the edit is 0, at this version of its slot.
+    Offer {
+        job: u64,
+        session: u64,
+        edit: u64,
+        version: u64,
+    },
+    /// A job was answered.
+    Verdict {
+        job: u64,
+        kind: Kind,
+    },
+    /// The job's answer goes out as the probe of this serial, which shows the update by this emission.
+    Probe {
+        serial: u64,
+        job: u64,
+        emission: Emission,
+    },
+    /// A line of the report.
+    Report(Line),
 }
