@@ -6,23 +6,27 @@ use Rattle.std.proofs.Math.ListN.{length-set}
 use Rattle.std.proofs.lemmas.Bool.Decides.{eqb_tells}
 use Rattle.of_frame.specs.declared.fault.FrameFault.{FrameFault}
 use Rattle.mon_world.specs.declared.event.Side.{Side}
-use Rattle.mon_world.specs.declared.event.Event.TheVariants.{Opened, Piece, Stop}
+use Rattle.mon_world.specs.declared.event.Event.TheVariants.{Opened, Piece, Closed, Tick, Answer, Idle, Stop}
 use Rattle.mon_world.specs.declared.event.Out.{Out}
 use Rattle.mon_world.specs.declared.event.Out.TheVariants.{Send, Close}
 use Rattle.mon_world.specs.declared.history.Entry.{Entry}
-use Rattle.mon_world.specs.declared.history.Entry.TheVariants.{Given, Put, End}
-use Rattle.mon_world.specs.Logs.{opened_in}
-use Rattle.mon_core.specs.History.{Sides, fresh, grown, completed, fault_after, after_piece, closed, ending, from_side, from_piece, session_at, sessions, owed, rest_of, IsFirst, LegalSoFar, Named}
+use Rattle.mon_world.specs.declared.history.Entry.TheVariants.{Given, Noted, Put, End}
+use Rattle.mon_core.specs.History.{Sides, fresh, grown, completed, fault_after, after_piece, closed, ending, from_side, from_piece, session_at, sessions, openings, owed, rest_of, IsFirst, LegalSoFar, Named}
 use Rattle.mon_core.specs.Streams.{has_ended}
 use Rattle.mon_core.proofs.Sends.{AllSends, sends-side}
 
 -- there are as many sessions as were opened
-pub opened-in : (h : List Entry) → length (sessions h) ≡ opened_in h
+pub opened-in : (h : List Entry) → length (sessions h) ≡ openings h
 opened-in [] = refl
 opened-in (Given Opened ∷ h) = length-append (sessions h) (fresh ∷ []) ∙ ap (λ (n : ℕ). n + 1) (opened-in h)
 opened-in (Given (Piece m from bytes) ∷ h) = length-set (sessions h) m _ ∙ opened-in h
+opened-in (Given (Closed m) ∷ h) = opened-in h
+opened-in (Given Tick ∷ h) = opened-in h
+opened-in (Given (Answer index) ∷ h) = opened-in h
+opened-in (Given Idle ∷ h) = opened-in h
 opened-in (Given Stop ∷ h) = opened-in h
-opened-in (Put m to frame ∷ h) = opened-in h
+opened-in (Noted note ∷ h) = opened-in h
+opened-in (Put m to frame lost ∷ h) = opened-in h
 opened-in (End m ∷ h) = length-set (sessions h) m _ ∙ opened-in h
 
 -- the outputs end the session
@@ -64,8 +68,13 @@ owed-within [] named = tt
 owed-within (Given Opened ∷ h) named = tt
 owed-within (Given (Piece m from bytes) ∷ h) named =
     piece-within _ m (session_at (sessions h) m) from bytes (subst (λ (k : ℕ). m < k) (sym (length-set (sessions h) m _ ∙ opened-in h)) named.0)
+owed-within (Given (Closed m) ∷ h) named = tt
+owed-within (Given Tick ∷ h) named = tt
+owed-within (Given (Answer index) ∷ h) named = tt
+owed-within (Given Idle ∷ h) named = tt
 owed-within (Given Stop ∷ h) named = tt
-owed-within (Put m to frame ∷ h) named = rest-within _ (owed h) (owed-within h named)
+owed-within (Noted note ∷ h) named = owed-within h named
+owed-within (Put m to frame lost ∷ h) named = rest-within _ (owed h) (owed-within h named)
 owed-within (End m ∷ h) named =
     subst (λ (k : ℕ). EndsWithin k (rest_of (owed h))) (sym (length-set (sessions h) m _)) (rest-within _ (owed h) (owed-within h named))
 
@@ -101,8 +110,13 @@ ended-is n (Given (Piece m from bytes) ∷ h) named legal =
       | inl is ↦ ap (λ (s : Sides). s.ended) is.1 ∙ after_piece-ended (session_at (sessions h) m) from bytes ∙ ap (λ (k : ℕ). (session_at (sessions h) k).ended) is.2 ∙ ended-is n h named.1 legal.1
       | inr off ↦ ap (λ (s : Sides). s.ended) off.1 ∙ ended-is n h named.1 legal.1
     ]
+ended-is n (Given (Closed m) ∷ h) named legal = ended-is n h named.1 legal.1
+ended-is n (Given Tick ∷ h) named legal = ended-is n h named legal.1
+ended-is n (Given (Answer index) ∷ h) named legal = ended-is n h named legal.1
+ended-is n (Given Idle ∷ h) named legal = ended-is n h named legal.1
 ended-is n (Given Stop ∷ h) named legal = ended-is n h named legal.1
-ended-is n (Put m to frame ∷ h) named legal = ended-is n h named legal.1
+ended-is n (Noted note ∷ h) named legal = absurd legal
+ended-is n (Put m to frame lost ∷ h) named legal = ended-is n h named legal.1
 ended-is n (End m ∷ h) named legal =
     elim (set-at (sessions h) m n (closed (session_at (sessions h) m)) (first-within (length (sessions h)) m (owed h) legal.0 (owed-within h named)))
     as (λ _. (session_at (set (sessions h) m (closed (session_at (sessions h) m))) n).ended ≡ ((m == n) || has_ended n h)) [

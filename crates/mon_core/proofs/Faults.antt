@@ -8,11 +8,11 @@ use Rattle.of_frame.specs.declared.fault.FrameFault.{FrameFault}
 use Rattle.of_frame.specs.Cut.{Pending, cut}
 use Rattle.mon_world.specs.declared.event.Side.{Side}
 use Rattle.mon_world.specs.declared.event.Side.TheVariants.{Controller, Switch}
-use Rattle.mon_world.specs.declared.event.Event.TheVariants.{Opened, Piece, Stop}
+use Rattle.mon_world.specs.declared.event.Event.TheVariants.{Opened, Piece, Closed, Tick, Answer, Idle, Stop}
 use Rattle.mon_world.specs.declared.event.Out.{Out}
 use Rattle.mon_world.specs.declared.event.Out.TheVariants.{Send, Close}
 use Rattle.mon_world.specs.declared.history.Entry.{Entry}
-use Rattle.mon_world.specs.declared.history.Entry.TheVariants.{Given, Put, End}
+use Rattle.mon_world.specs.declared.history.Entry.TheVariants.{Given, Noted, Put, End}
 use Rattle.mon_table.specs.declared.rule.Rule.{Rule}
 use Rattle.mon_core.proofs.Sends.{AllSends, sends-side}
 use Rattle.mon_core.specs.History.{Sides, fresh, completed, fault_after, after_piece, closed, ending, from_side, from_piece, session_at, sessions, owed, rest_of, IsFirst, LegalSoFar, Legal, Named}
@@ -95,6 +95,14 @@ ending-is n (Given Opened ∷ h) named legal =
     let before = as-whole n h legal.0 (ending-is n h named legal.1) in
     or-false (session_at (sessions h ++ fresh ∷ []) n).ended
     ∙ subst (λ (s : Sides). s.ended ≡ faulted s) (sym (session-opened (sessions h) n)) before
+ending-is n (Given (Closed m) ∷ h) named legal =
+    or-false (session_at (sessions h) n).ended ∙ as-whole n h legal.0 (ending-is n h named.1 legal.1)
+ending-is n (Given Tick ∷ h) named legal =
+    or-false (session_at (sessions h) n).ended ∙ as-whole n h legal.0 (ending-is n h named legal.1)
+ending-is n (Given (Answer index) ∷ h) named legal =
+    or-false (session_at (sessions h) n).ended ∙ as-whole n h legal.0 (ending-is n h named legal.1)
+ending-is n (Given Idle ∷ h) named legal =
+    or-false (session_at (sessions h) n).ended ∙ as-whole n h legal.0 (ending-is n h named legal.1)
 ending-is n (Given Stop ∷ h) named legal =
     or-false (session_at (sessions h) n).ended ∙ as-whole n h legal.0 (ending-is n h named legal.1)
 ending-is n (Given (Piece m from bytes) ∷ h) named legal =
@@ -108,7 +116,8 @@ ending-is n (Given (Piece m from bytes) ∷ h) named legal =
       | inr off ↦
           rw (off.1, other-piece n m s from bytes off.0) (or-false (session_at (sessions h) n).ended ∙ as-whole n h legal.0 (ending-is n h named.1 legal.1))
     ]
-ending-is n (Put m to frame ∷ h) named legal =
+ending-is n (Noted note ∷ h) named legal = absurd legal
+ending-is n (Put m to frame lost ∷ h) named legal =
     ap (λ (b : Bool). (session_at (sessions h) n).ended || b) (put-closes n m to frame (owed h) legal.0) ∙ ending-is n h named legal.1
 ending-is n (End m ∷ h) named legal =
     let s = session_at (sessions h) m in
@@ -136,8 +145,13 @@ before-inputs : (h : List Entry) → Named h → LegalSoFar h → BeforeInputs I
 before-inputs [] named legal = tt
 before-inputs (Given Opened ∷ h) named legal = (is-passed h named (record { so_far = legal.1; whole = legal.0 }), before-inputs h named legal.1)
 before-inputs (Given (Piece m from bytes) ∷ h) named legal = (is-passed h named.1 (record { so_far = legal.1; whole = legal.0 }), before-inputs h named.1 legal.1)
+before-inputs (Given (Closed m) ∷ h) named legal = (is-passed h named.1 (record { so_far = legal.1; whole = legal.0 }), before-inputs h named.1 legal.1)
+before-inputs (Given Tick ∷ h) named legal = (is-passed h named (record { so_far = legal.1; whole = legal.0 }), before-inputs h named legal.1)
+before-inputs (Given (Answer index) ∷ h) named legal = (is-passed h named (record { so_far = legal.1; whole = legal.0 }), before-inputs h named legal.1)
+before-inputs (Given Idle ∷ h) named legal = (is-passed h named (record { so_far = legal.1; whole = legal.0 }), before-inputs h named legal.1)
 before-inputs (Given Stop ∷ h) named legal = (is-passed h named (record { so_far = legal.1; whole = legal.0 }), before-inputs h named legal.1)
-before-inputs (Put m to frame ∷ h) named legal = before-inputs h named legal.1
+before-inputs (Noted note ∷ h) named legal = absurd legal
+before-inputs (Put m to frame lost ∷ h) named legal = before-inputs h named legal.1
 before-inputs (End m ∷ h) named legal = before-inputs h named legal.1
 
 pub passes-frames : (h : List Entry) → Named h → Legal h → AtTurnEnds IsPassed h

@@ -12,11 +12,11 @@ use Rattle.mon_table.specs.declared.edit.Edit.{Edit}
 use Rattle.mon_table.specs.Edits.{after, after_all}
 use Rattle.mon_world.specs.declared.event.Side.{Side}
 use Rattle.mon_world.specs.declared.event.Side.TheVariants.{Controller, Switch}
-use Rattle.mon_world.specs.declared.event.Event.TheVariants.{Opened, Piece, Stop}
+use Rattle.mon_world.specs.declared.event.Event.TheVariants.{Opened, Piece, Closed, Tick, Answer, Idle, Stop}
 use Rattle.mon_world.specs.declared.event.Out.{Out}
 use Rattle.mon_world.specs.declared.event.Out.TheVariants.{Send, Close}
 use Rattle.mon_world.specs.declared.history.Entry.{Entry}
-use Rattle.mon_world.specs.declared.history.Entry.TheVariants.{Given, Put, End}
+use Rattle.mon_world.specs.declared.history.Entry.TheVariants.{Given, Noted, Put, End}
 use Rattle.mon_core.specs.Fates.{Fated, fated, fates, passed, errors, edits, followed, followed_all, passed_all, errors_all, edits_all}
 use Rattle.mon_core.specs.History.{Sides, pending_of, completed, fault_after, after_piece, closed, sent, ending, from_frame, from_frames, from_side, from_piece, session_at, sessions, owed, rest_of, IsFirst, LegalSoFar, Legal, Named}
 use Rattle.mon_core.specs.Streams.{same_side, has_ended, stream, puts, frames_in, expected, brought_in}
@@ -294,9 +294,9 @@ standing-closed s sc sw st = record { controller = st.controller; switch = st.sw
 input-balance : (n : ℕ) (to : Side) (h : List Entry) → owed h ≡ [] → Balance n to h → puts n to h ++ [] ≡ due n to h
 input-balance n to h none e = append-nil (puts n to h) ∙ as-whole n to h none e
 
-put-balance : (n m : ℕ) (to side : Side) (frame : List ℕ) (h : List Entry) → IsFirst (Send m side frame) (owed h) → Balance n to h → Balance n to (Put m side frame ∷ h)
-put-balance n m Controller side frame h first e = put-frames n m Controller side frame (puts n Controller h) (owed h) first ∙ e
-put-balance n m Switch side frame h first e = put-frames n m Switch side frame (puts n Switch h) (owed h) first ∙ e
+put-balance : (n m : ℕ) (to side : Side) (frame : List ℕ) (lost : Bool) (h : List Entry) → IsFirst (Send m side frame) (owed h) → Balance n to h → Balance n to (Put m side frame lost ∷ h)
+put-balance n m Controller side frame lost h first e = put-frames n m Controller side frame (puts n Controller h) (owed h) first ∙ e
+put-balance n m Switch side frame lost h first e = put-frames n m Switch side frame (puts n Switch h) (owed h) first ∙ e
 
 end-balance : (n m : ℕ) (to : Side) (h : List Entry) → IsFirst (Close m) (owed h) → Balance n to h → Balance n to (End m ∷ h)
 end-balance n m Controller h first e = ap (λ (xs : List (List ℕ)). puts n Controller h ++ xs) (end-frames n m Controller (owed h) first) ∙ e
@@ -334,6 +334,18 @@ passing n (Given Opened ∷ h) named legal =
       switch = input-balance n Switch h legal.0 p.switch;
       controller = input-balance n Controller h legal.0 p.controller;
     }
+passing n (Given (Closed m) ∷ h) named legal =
+    let p = passing n h named.1 legal.1 in
+    record { standing = p.standing; switch = input-balance n Switch h legal.0 p.switch; controller = input-balance n Controller h legal.0 p.controller }
+passing n (Given Tick ∷ h) named legal =
+    let p = passing n h named legal.1 in
+    record { standing = p.standing; switch = input-balance n Switch h legal.0 p.switch; controller = input-balance n Controller h legal.0 p.controller }
+passing n (Given (Answer index) ∷ h) named legal =
+    let p = passing n h named legal.1 in
+    record { standing = p.standing; switch = input-balance n Switch h legal.0 p.switch; controller = input-balance n Controller h legal.0 p.controller }
+passing n (Given Idle ∷ h) named legal =
+    let p = passing n h named legal.1 in
+    record { standing = p.standing; switch = input-balance n Switch h legal.0 p.switch; controller = input-balance n Controller h legal.0 p.controller }
 passing n (Given Stop ∷ h) named legal =
     let p = passing n h named legal.1 in
     record { standing = p.standing; switch = input-balance n Switch h legal.0 p.switch; controller = input-balance n Controller h legal.0 p.controller }
@@ -374,12 +386,13 @@ passing n (Given (Piece m from bytes) ∷ h) named legal =
             controller = other-balance n m Controller from bytes h off.0 legal.0 p.controller ∙ sym (other-brought n m from bytes h off.0);
           }
     ]
-passing n (Put m to frame ∷ h) named legal =
+passing n (Noted note ∷ h) named legal = absurd legal
+passing n (Put m to frame lost ∷ h) named legal =
     let p = passing n h named legal.1 in
     record {
       standing = p.standing;
-      switch = put-balance n m Switch to frame h legal.0 p.switch;
-      controller = put-balance n m Controller to frame h legal.0 p.controller;
+      switch = put-balance n m Switch to frame lost h legal.0 p.switch;
+      controller = put-balance n m Controller to frame lost h legal.0 p.controller;
     }
 passing n (End m ∷ h) named legal =
     let p = passing n h named legal.1 in

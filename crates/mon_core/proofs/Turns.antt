@@ -1,8 +1,9 @@
 -- What a turn adds to a history.
-use Rattle.std.proofs.Common.{◌≡◌, ℕ, zero, suc, ◌+◌, ◌<◌, Bool, true, false, List, [], ◌∷◌, ◌++◌, Option, Some, None, length, set, take, drop, refl, sym, ap, subst, ◌∙◌, add-zero, arith}
+use Rattle.std.proofs.Common.{◌≡◌, ℕ, zero, suc, ◌+◌, ◌<◌, Bool, true, false, List, [], ◌∷◌, ◌++◌, Option, Some, None, length, set, take, drop, refl, sym, ap, subst, ◌∙◌, add-zero, arith, ◌-◌, ◌^◌, ◌≤◌}
 use Rattle.std.specs.Prelude.{slice_set, IfSome, OnOk, OnErr, Result, Ok, Err}
 use Rattle.std.proofs.lemmas.List.{append-nil, get_or-set_same, take-append-drop, length-append}
 use Rattle.std.proofs.Math.ListN.{length-set}
+use Rattle.std.proofs.Math.Nat.{min-eq_left}
 use Rattle.std.proofs.Math.Seq.{take-length}
 use Rattle.of_frame.specs.declared.fault.FrameFault.{FrameFault}
 use Rattle.std.specs.Option.{is_some}
@@ -10,35 +11,51 @@ use Rattle.of_frame.specs.Cut.{Pending}
 use Rattle.mon_table.specs.declared.rule.Rule.{Rule}
 use Rattle.mon_world.specs.declared.event.Side.{Side}
 use Rattle.mon_world.specs.declared.event.Event.{Event}
-use Rattle.mon_world.specs.declared.event.Event.TheVariants.{Opened, Piece, Stop}
+use Rattle.mon_world.specs.declared.event.Event.TheVariants.{Opened, Piece, Closed, Tick, Answer, Idle, Stop}
 use Rattle.mon_world.specs.declared.event.Out.{Out}
 use Rattle.mon_world.specs.declared.event.Out.TheVariants.{Send, Close}
 use Rattle.mon_world.specs.declared.history.Entry.{Entry}
-use Rattle.mon_world.specs.declared.history.Entry.TheVariants.{Given, Put, End}
-use Rattle.mon_world.specs.Logs.{entry_of, longer, opened_by, opened_in, NamesOpened, inputs, IsStop, NoStop, StopsNow}
+use Rattle.mon_world.specs.declared.history.Entry.TheVariants.{Given, Noted, Put, End}
+use Rattle.mon_world.specs.Logs.{entry_of, longer, opened_by, NamesOpened, inputs, IsStop, NoStop, StopsNow}
+use Rattle.mon_world.specs.Causes.{counted}
 use Rattle.mon_core.proofs.Ending.{opened-in}
 use Rattle.mon_core.proofs.Sends.{AllSends, sends-side}
-use Rattle.mon_core.specs.History.{Sides, fresh, closed, grown, controller_after, switch_after, table_after, completed, fault_after, after_piece, after_turn, from_side, from_piece, ending, session_at, on_event, sessions, owed, rest_of, IsFirst, LegalSoFar, Legal, Named, StandsFor, WasGiven, onto, logged, Came, Ran, RanToStop}
+use Rattle.mon_core.specs.History.{Sides, fresh, closed, grown, controller_after, switch_after, table_after, completed, fault_after, after_piece, after_turn, from_side, from_piece, ending, session_at, on_event, sessions, owed, rest_of, IsFirst, LegalSoFar, Legal, Named, StandsFor, WasGiven, openings, the_out, outs_of, onto, logged, Carried, Came, Ran, RanToStop}
 
-pub onto-more : (outs : List Out) (out : Out) (h : List Entry) → onto (outs ++ out ∷ []) h ≡ entry_of out ∷ onto outs h
-onto-more [] out h = refl
-onto-more (o ∷ os) out h = onto-more os out (entry_of o ∷ h)
+pub onto-more : (puts : List (Bool × Out)) (put : Bool × Out) (h : List Entry) → onto (puts ++ put ∷ []) h ≡ entry_of put.0 put.1 ∷ onto puts h
+onto-more [] put h = refl
+onto-more (p ∷ ps) put h = onto-more ps put (entry_of p.0 p.1 ∷ h)
 
-pub logged-more : (outs : List Out) (out : Out) (log : Option (List Entry)) → logged (outs ++ out ∷ []) log ≡ longer (entry_of out) (logged outs log)
-logged-more outs out None = refl
-logged-more outs out (Some h) = ap (λ (x : List Entry). Some x) (onto-more outs out h)
+pub logged-more : (puts : List (Bool × Out)) (put : Bool × Out) (log : Option (List Entry)) → logged (puts ++ put ∷ []) log ≡ longer (entry_of put.0 put.1) (logged puts log)
+logged-more puts put None = refl
+logged-more puts put (Some h) = ap (λ (x : List Entry). Some x) (onto-more puts put h)
 
 pub logged-none : (log : Option (List Entry)) → logged [] log ≡ log
 logged-none None = refl
 logged-none (Some h) = refl
 
--- outputs that are owed are legal, and leave what is owed behind them
-pub legal-onto : (outs more : List Out) (h : List Entry) → LegalSoFar h → owed h ≡ outs ++ more → LegalSoFar (onto outs h) × (owed (onto outs h) ≡ more)
+outs-more : (puts : List (Bool × Out)) (put : Bool × Out) → outs_of (puts ++ put ∷ []) ≡ outs_of puts ++ put.1 ∷ []
+outs-more [] put = refl
+outs-more (p ∷ ps) put = ap (λ (os : List Out). p.1 ∷ os) (outs-more ps put)
+
+-- nothing yet, and one output more
+pub carried-none : (log : Option (List Entry)) → Carried [] log log
+carried-none log = ([], refl, sym (logged-none log))
+
+pub carried-more : (outs more : List Out) (out : Out) (lost : Bool) (first before now : Option (List Entry)) → more ≡ outs ++ out ∷ [] → now ≡ longer (entry_of lost out) before → Carried outs first before → Carried more first now
+carried-more outs more out lost first before now more_is now_is (puts, is, log) = (
+  puts ++ (lost, out) ∷ [],
+  outs-more puts (lost, out) ∙ ap (λ (os : List Out). os ++ out ∷ []) is ∙ sym more_is,
+  now_is ∙ ap (longer (entry_of lost out)) log ∙ sym (logged-more puts (lost, out) first),
+)
+
+-- outputs that are owed are legal, put or lost, and leave what is owed behind them
+pub legal-onto : (puts : List (Bool × Out)) (more : List Out) (h : List Entry) → LegalSoFar h → owed h ≡ outs_of puts ++ more → LegalSoFar (onto puts h) × (owed (onto puts h) ≡ more)
 legal-onto [] more h legal e = (legal, e)
-legal-onto (Send n to frame ∷ outs) more h legal e =
-    legal-onto outs more (Put n to frame ∷ h) (subst (IsFirst (Send n to frame)) (sym e) refl, legal) (ap rest_of e)
-legal-onto (Close n ∷ outs) more h legal e =
-    legal-onto outs more (End n ∷ h) (subst (IsFirst (Close n)) (sym e) refl, legal) (ap rest_of e)
+legal-onto ((lost, Send n to frame) ∷ puts) more h legal e =
+    legal-onto puts more (Put n to frame lost ∷ h) (subst (IsFirst (Send n to frame)) (sym e) refl, legal) (ap rest_of e)
+legal-onto ((lost, Close n) ∷ puts) more h legal e =
+    legal-onto puts more (End n ∷ h) (subst (IsFirst (Close n)) (sym e) refl, legal) (ap rest_of e)
 
 -- outputs change a session only where they end it
 abbrev after_outs : List Out → List Sides → List Sides
@@ -46,10 +63,10 @@ after_outs [] core = core
 after_outs (Send n to frame ∷ outs) core = after_outs outs core
 after_outs (Close n ∷ outs) core = after_outs outs (slice_set core n (closed (session_at core n)))
 
-sessions-onto : (outs : List Out) (h : List Entry) → sessions (onto outs h) ≡ after_outs outs (sessions h)
+sessions-onto : (puts : List (Bool × Out)) (h : List Entry) → sessions (onto puts h) ≡ after_outs (outs_of puts) (sessions h)
 sessions-onto [] h = refl
-sessions-onto (Send n to frame ∷ outs) h = sessions-onto outs (Put n to frame ∷ h)
-sessions-onto (Close n ∷ outs) h = sessions-onto outs (End n ∷ h)
+sessions-onto ((lost, Send n to frame) ∷ puts) h = sessions-onto puts (Put n to frame lost ∷ h)
+sessions-onto ((lost, Close n) ∷ puts) h = sessions-onto puts (End n ∷ h)
 
 after-sends : (outs more : List Out) (core : List Sides) → AllSends outs → after_outs (outs ++ more) core ≡ after_outs more core
 after-sends [] more core sends = refl
@@ -87,6 +104,10 @@ owed-given : (event : Event) (h : List Entry) → owed (Given event ∷ h) ≡ (
 unfolding on_event
 owed-given Opened h = refl
 owed-given (Piece n side bytes) h = refl
+owed-given (Closed n) h = refl
+owed-given Tick h = refl
+owed-given (Answer index) h = refl
+owed-given Idle h = refl
 owed-given Stop h = refl
 
 state-given : (event : Event) (h : List Entry) → NamesOpened (length (sessions h)) event
@@ -96,67 +117,80 @@ state-given Opened h names = refl
 state-given (Piece n side bytes) h names =
     let s = session_at (sessions h) n in
     after_turn_is (sessions h) n s.controller s.switch s.table s.ended side bytes names
+state-given (Closed n) h names = refl
+state-given Tick h names = refl
+state-given (Answer index) h names = refl
+state-given Idle h names = refl
 state-given Stop h names = refl
 
 legal-given : (event : Event) (h : List Entry) → Legal h → LegalSoFar (Given event ∷ h)
 legal-given event h legal = (legal.whole, legal.so_far)
 
 -- an event that names an opened session, and outputs, which name none
-named-given : (event : Event) (h : List Entry) → NamesOpened (opened_in h) event → Named h → Named (Given event ∷ h)
+named-given : (event : Event) (h : List Entry) → NamesOpened (openings h) event → Named h → Named (Given event ∷ h)
 named-given Opened h names named = named
 named-given (Piece n side bytes) h names named = (names, named)
+named-given (Closed n) h names named = (names, named)
+named-given Tick h names named = named
+named-given (Answer index) h names named = named
+named-given Idle h names named = named
 named-given Stop h names named = named
 
-named-onto : (outs : List Out) (h : List Entry) → Named h → Named (onto outs h)
+named-onto : (puts : List (Bool × Out)) (h : List Entry) → Named h → Named (onto puts h)
 named-onto [] h named = named
-named-onto (Send n to frame ∷ outs) h named = named-onto outs (Put n to frame ∷ h) named
-named-onto (Close n ∷ outs) h named = named-onto outs (End n ∷ h) named
+named-onto ((lost, Send n to frame) ∷ puts) h named = named-onto puts (Put n to frame lost ∷ h) named
+named-onto ((lost, Close n) ∷ puts) h named = named-onto puts (End n ∷ h) named
 
 -- the model's turn makes a legal history longer
-turn-stands : (event : Event) (core after : List Sides) (outs : List Out) (h : List Entry) → NamesOpened (length core) event → on_event event core ≡ (after, outs) → StandsFor core h → StandsFor after (onto outs (Given event ∷ h))
-turn-stands event core after outs h names e stands =
+turn-stands : (event : Event) (core after : List Sides) (puts : List (Bool × Out)) (h : List Entry) → NamesOpened (length core) event → on_event event core ≡ (after, outs_of puts) → StandsFor core h → StandsFor after (onto puts (Given event ∷ h))
+turn-stands event core after puts h names e stands =
+    let outs = outs_of puts in
     let names' : NamesOpened (length (sessions h)) event = subst (λ c. NamesOpened (length c) event) stands.state names in
     let e' : on_event event (sessions h) ≡ (after, outs) = subst (λ c. on_event event c ≡ (after, outs)) stands.state e in
     let due : owed (Given event ∷ h) ≡ outs ++ [] = owed-given event h ∙ ap (λ x. x.1) e' ∙ sym (append-nil outs) in
-    let done = legal-onto outs [] (Given event ∷ h) (legal-given event h stands.legal) due in
+    let done = legal-onto puts [] (Given event ∷ h) (legal-given event h stands.legal) due in
     let state : after_outs outs (sessions (Given event ∷ h)) ≡ after = subst (λ (x : List Sides × List Out). after_outs x.1 (sessions (Given event ∷ h)) ≡ x.0) e' (state-given event h names') in
     record {
-      state = sym (sessions-onto outs (Given event ∷ h) ∙ state);
+      state = sym (sessions-onto puts (Given event ∷ h) ∙ state);
       legal = record { so_far = done.0; whole = done.1 };
-      named = named-onto outs (Given event ∷ h) (named-given event h (subst (λ (k : ℕ). NamesOpened k event) (opened-in h) names') stands.named);
+      named = named-onto puts (Given event ∷ h) (named-given event h (subst (λ (k : ℕ). NamesOpened k event) (opened-in h) names') stands.named);
     }
 
-turn-so_far : (event : Event) (core after : List Sides) (outs : List Out) (k : ℕ) (h : List Entry) → on_event event core ≡ (after, outs) → StandsFor core h → LegalSoFar (onto (take k outs) (Given event ∷ h))
-turn-so_far event core after outs k h e stands =
+turn-so_far : (event : Event) (core after : List Sides) (outs : List Out) (k : ℕ) (puts : List (Bool × Out)) (h : List Entry) → on_event event core ≡ (after, outs) → outs_of puts ≡ take k outs → StandsFor core h → LegalSoFar (onto puts (Given event ∷ h))
+turn-so_far event core after outs k puts h e is stands =
     let e' : on_event event (sessions h) ≡ (after, outs) = subst (λ c. on_event event c ≡ (after, outs)) stands.state e in
-    let due : owed (Given event ∷ h) ≡ take k outs ++ drop k outs = owed-given event h ∙ ap (λ x. x.1) e' ∙ sym (take-append-drop k outs) in
-    (legal-onto (take k outs) (drop k outs) (Given event ∷ h) (legal-given event h stands.legal) due).0
+    let due : owed (Given event ∷ h) ≡ outs_of puts ++ drop k outs =
+    owed-given event h ∙ ap (λ x. x.1) e' ∙ sym (take-append-drop k outs) ∙ ap (λ (os : List Out). os ++ drop k outs) (sym is) in
+    (legal-onto puts (drop k outs) (Given event ∷ h) (legal-given event h stands.legal) due).0
 
 -- the same where the hub may tell no log
-pub logged-stands : (event : Event) (core after : List Sides) (outs : List Out) (log : Option (List Entry)) → NamesOpened (length core) event → on_event event core ≡ (after, outs)
-    → IfSome log (WasGiven event core) → IfSome (logged outs log) (StandsFor after)
-logged-stands event core after outs None names e given = tt
-logged-stands event core after outs (Some []) names e given = absurd given
-logged-stands event core after outs (Some (Given last ∷ h)) names e given =
-    subst (λ (x : Event). StandsFor after (onto outs (Given x ∷ h))) (sym given.0) (turn-stands event core after outs h names e given.1)
-logged-stands event core after outs (Some (Put n to frame ∷ h)) names e given = absurd given
-logged-stands event core after outs (Some (End n ∷ h)) names e given = absurd given
+logged-stands : (event : Event) (core after : List Sides) (puts : List (Bool × Out)) (log : Option (List Entry)) → NamesOpened (length core) event → on_event event core ≡ (after, outs_of puts)
+    → IfSome log (WasGiven event core) → IfSome (logged puts log) (StandsFor after)
+logged-stands event core after puts None names e given = tt
+logged-stands event core after puts (Some []) names e given = absurd given
+logged-stands event core after puts (Some (Given last ∷ h)) names e given =
+    subst (λ (x : Event). StandsFor after (onto puts (Given x ∷ h))) (sym given.0) (turn-stands event core after puts h names e given.1)
+logged-stands event core after puts (Some (Noted note ∷ h)) names e given = absurd given
+logged-stands event core after puts (Some (Put n to frame lost ∷ h)) names e given = absurd given
+logged-stands event core after puts (Some (End n ∷ h)) names e given = absurd given
 
-pub logged-so_far : (event : Event) (core after : List Sides) (outs : List Out) (k : ℕ) (log : Option (List Entry)) → on_event event core ≡ (after, outs)
-    → IfSome log (WasGiven event core) → IfSome (logged (take k outs) log) LegalSoFar
-logged-so_far event core after outs k None e given = tt
-logged-so_far event core after outs k (Some []) e given = absurd given
-logged-so_far event core after outs k (Some (Given last ∷ h)) e given =
-    subst (λ (x : Event). LegalSoFar (onto (take k outs) (Given x ∷ h))) (sym given.0) (turn-so_far event core after outs k h e given.1)
-logged-so_far event core after outs k (Some (Put n to frame ∷ h)) e given = absurd given
-logged-so_far event core after outs k (Some (End n ∷ h)) e given = absurd given
+logged-so_far : (event : Event) (core after : List Sides) (outs : List Out) (k : ℕ) (puts : List (Bool × Out)) (log : Option (List Entry)) → on_event event core ≡ (after, outs) → outs_of puts ≡ take k outs
+    → IfSome log (WasGiven event core) → IfSome (logged puts log) LegalSoFar
+logged-so_far event core after outs k puts None e is given = tt
+logged-so_far event core after outs k puts (Some []) e is given = absurd given
+logged-so_far event core after outs k puts (Some (Given last ∷ h)) e is given =
+    subst (λ (x : Event). LegalSoFar (onto puts (Given x ∷ h))) (sym given.0) (turn-so_far event core after outs k puts h e is given.1)
+logged-so_far event core after outs k puts (Some (Noted note ∷ h)) e is given = absurd given
+logged-so_far event core after outs k puts (Some (Put n to frame lost ∷ h)) e is given = absurd given
+logged-so_far event core after outs k puts (Some (End n ∷ h)) e is given = absurd given
 
 -- a turn that fails before its first output
 pub given-so_far : (event : Event) (core : List Sides) (log : Option (List Entry)) → IfSome log (WasGiven event core) → IfSome log LegalSoFar
 given-so_far event core None given = tt
 given-so_far event core (Some []) given = tt
 given-so_far event core (Some (Given last ∷ h)) given = legal-given last h given.1.legal
-given-so_far event core (Some (Put n to frame ∷ h)) given = absurd given
+given-so_far event core (Some (Noted note ∷ h)) given = absurd given
+given-so_far event core (Some (Put n to frame lost ∷ h)) given = absurd given
 given-so_far event core (Some (End n ∷ h)) given = absurd given
 
 -- what was given is on the log
@@ -164,42 +198,55 @@ pub longer-given : (event : Event) (core : List Sides) (log : Option (List Entry
 longer-given event core None stands = tt
 longer-given event core (Some h) stands = (refl, stands)
 
-pub opened-is : (event : Event) (core after : List Sides) (outs : List Out) → on_event event core ≡ (after, outs) → length after ≡ opened_by event (length core)
+-- sessions that fit into memory are counted
+small-counted : (n : ℕ) → n + 1 < 2 ^ 63 → n + 1 ≡ counted n
+small-counted n small = sym (min-eq_left {n = n + 1} {m = 2 ^ 64 - 1} (omega (arith, small)))
+
+pub opened-is : (event : Event) (core after : List Sides) (outs : List Out) → length after < 2 ^ 63 → on_event event core ≡ (after, outs) → length after ≡ opened_by event (length core)
 unfolding on_event
-opened-is Opened core after outs e = sym (ap (λ (x : List Sides × List Out). length x.0) e) ∙ length-append core (fresh ∷ [])
-opened-is (Piece n side bytes) core after outs e = sym (ap (λ (x : List Sides × List Out). length x.0) e) ∙ length-set core n _
-opened-is Stop core after outs e = sym (ap (λ (x : List Sides × List Out). length x.0) e)
+opened-is Opened core after outs small e =
+    let is : length after ≡ length core + 1 = sym (ap (λ (x : List Sides × List Out). length x.0) e) ∙ length-append core (fresh ∷ []) in
+    is ∙ small-counted (length core) (subst (λ (k : ℕ). k < 2 ^ 63) is small)
+opened-is (Piece n side bytes) core after outs small e = sym (ap (λ (x : List Sides × List Out). length x.0) e) ∙ length-set core n _
+opened-is (Closed n) core after outs small e = sym (ap (λ (x : List Sides × List Out). length x.0) e)
+opened-is Tick core after outs small e = sym (ap (λ (x : List Sides × List Out). length x.0) e)
+opened-is (Answer index) core after outs small e = sym (ap (λ (x : List Sides × List Out). length x.0) e)
+opened-is Idle core after outs small e = sym (ap (λ (x : List Sides × List Out). length x.0) e)
+opened-is Stop core after outs small e = sym (ap (λ (x : List Sides × List Out). length x.0) e)
+
+some-so_far : (event : Event) (core after : List Sides) (outs : List Out) (k : ℕ) (old new : Option (List Entry)) → on_event event core ≡ (after, outs) → IfSome old (WasGiven event core) → Carried (take k outs) old new → IfSome new LegalSoFar
+some-so_far event core after outs k old new e given (puts, is, log) =
+    subst (λ (l : Option (List Entry)). IfSome l LegalSoFar) (sym log) (logged-so_far event core after outs k puts old e is given)
 
 pub carried-so_far : {A E : Type 0} (r : Result A E) (event : Event) (core after : List Sides) (outs slice : List Out) (old new : Option (List Entry)) → on_event event core ≡ (after, outs)
-    → IfSome old (WasGiven event core) → slice ≡ outs → OnOk r (new ≡ logged slice old) → OnErr r ((n : ℕ) × (new ≡ logged (take n slice) old)) → IfSome new LegalSoFar
+    → IfSome old (WasGiven event core) → slice ≡ outs → OnOk r (Carried slice old new) → OnErr r ((n : ℕ) × Carried (take n slice) old new) → IfSome new LegalSoFar
 carried-so_far (Ok x) event core after outs slice old new e given same ok err =
-    let all : new ≡ logged (take (length outs) outs) old = ok ∙ ap (λ (os : List Out). logged os old) (same ∙ sym (take-length outs)) in
-    subst (λ (l : Option (List Entry)). IfSome l LegalSoFar) (sym all) (logged-so_far event core after outs (length outs) old e given)
+    some-so_far event core after outs (length outs) old new e given (subst (λ (os : List Out). Carried os old new) (same ∙ sym (take-length outs)) ok)
 carried-so_far (Err x) event core after outs slice old new e given same ok err =
-    subst (λ (l : Option (List Entry)). IfSome l LegalSoFar) (sym (err.1 ∙ ap (λ (os : List Out). logged (take err.0 os) old) same)) (logged-so_far event core after outs err.0 old e given)
+    some-so_far event core after outs err.0 old new e given (subst (λ (os : List Out). Carried (take err.0 os) old new) same err.1)
 
 pub stood : (event : Event) (core after : List Sides) (outs slice : List Out) (old new : Option (List Entry)) → NamesOpened (length core) event → on_event event core ≡ (after, outs)
-    → IfSome old (WasGiven event core) → slice ≡ outs → new ≡ logged slice old → IfSome new (StandsFor after)
-stood event core after outs slice old new names e given same put =
-    let all : new ≡ logged outs old = put ∙ ap (λ (os : List Out). logged os old) same in
-    subst (λ (l : Option (List Entry)). IfSome l (StandsFor after)) (sym all) (logged-stands event core after outs old names e given)
+    → IfSome old (WasGiven event core) → slice ≡ outs → Carried slice old new → IfSome new (StandsFor after)
+stood event core after outs slice old new names e given same (puts, is, log) =
+    let e' : on_event event core ≡ (after, outs_of puts) = subst (λ (os : List Out). on_event event core ≡ (after, os)) (sym (is ∙ same)) e in
+    subst (λ (l : Option (List Entry)). IfSome l (StandsFor after)) (sym log) (logged-stands event core after puts old names e' given)
 
-inputs-onto : (outs : List Out) (h : List Entry) → inputs (onto outs h) ≡ inputs h
+inputs-onto : (puts : List (Bool × Out)) (h : List Entry) → inputs (onto puts h) ≡ inputs h
 inputs-onto [] h = refl
-inputs-onto (Send n to frame ∷ outs) h = inputs-onto outs (Put n to frame ∷ h)
-inputs-onto (Close n ∷ outs) h = inputs-onto outs (End n ∷ h)
+inputs-onto ((lost, Send n to frame) ∷ puts) h = inputs-onto puts (Put n to frame lost ∷ h)
+inputs-onto ((lost, Close n) ∷ puts) h = inputs-onto puts (End n ∷ h)
 
 pub carried-put : {A E : Type 0} (r : Result A E) (slice : List Out) (old new : Option (List Entry))
-    → OnOk r (new ≡ logged slice old) → OnErr r ((n : ℕ) × (new ≡ logged (take n slice) old)) → (outs : List Out) × (new ≡ logged outs old)
-carried-put (Ok x) slice old new ok err = (slice, ok)
-carried-put (Err x) slice old new ok err = (take err.0 slice, err.1)
+    → OnOk r (Carried slice old new) → OnErr r ((n : ℕ) × Carried (take n slice) old new) → (puts : List (Bool × Out)) × (new ≡ logged puts old)
+carried-put (Ok x) slice old new ok err = (ok.0, ok.2)
+carried-put (Err x) slice old new ok err = (err.1.0, err.1.2)
 
 -- what is put goes in front of all entries
-onto-append : (outs : List Out) (entries h : List Entry) → onto outs (entries ++ h) ≡ onto outs entries ++ h
+onto-append : (puts : List (Bool × Out)) (entries h : List Entry) → onto puts (entries ++ h) ≡ onto puts entries ++ h
 onto-append [] entries h = refl
-onto-append (o ∷ outs) entries h = onto-append outs (entry_of o ∷ entries) h
+onto-append (p ∷ puts) entries h = onto-append puts (entry_of p.0 p.1 ∷ entries) h
 
-came-on : (entries h k : List Entry) (event : Event) (outs : List Out) → Came entries h k → Came (onto outs (Given event ∷ entries)) h (onto outs (Given event ∷ k))
+came-on : (entries h k : List Entry) (event : Event) (outs : List (Bool × Out)) → Came entries h k → Came (onto outs (Given event ∷ entries)) h (onto outs (Given event ∷ k))
 came-on entries h k event outs came =
     ap (λ (x : List Entry). onto outs (Given event ∷ x)) came ∙ onto-append outs (Given event ∷ entries) h
 
@@ -209,7 +256,7 @@ ran-none None = refl
 ran-none (Some h) = (sym (add-zero (length (inputs h))), (λ none. none), [], refl, refl, tt)
 
 -- one event more that is not Stop
-pub ran-on : (first now : Option (List Entry)) (turns : ℕ) (event : Event) (outs : List Out) → Ran first now turns → (IsStop event → ⊥) → Ran first (logged outs (longer (Given event) now)) (turns + 1)
+pub ran-on : (first now : Option (List Entry)) (turns : ℕ) (event : Event) (outs : List (Bool × Out)) → Ran first now turns → (IsStop event → ⊥) → Ran first (logged outs (longer (Given event) now)) (turns + 1)
 ran-on None None turns event outs ran not_stop = refl
 ran-on None (Some k) turns event outs ran not_stop = absurd cc
 ran-on (Some h) None turns event outs ran not_stop = absurd ran
@@ -224,7 +271,7 @@ ran-on (Some h) (Some k) turns event outs (count, none, entries, came, new, none
       subst NoStop (sym e') (not_stop, none_new),
     )
 
-pub ran-to_stop : (first now : Option (List Entry)) (turns : ℕ) (event : Event) (outs : List Out) → Ran first now turns → IsStop event → RanToStop first (logged outs (longer (Given event) now))
+pub ran-to_stop : (first now : Option (List Entry)) (turns : ℕ) (event : Event) (outs : List (Bool × Out)) → Ran first now turns → IsStop event → RanToStop first (logged outs (longer (Given event) now))
 ran-to_stop None None turns event outs ran stop = refl
 ran-to_stop None (Some k) turns event outs ran stop = absurd cc
 ran-to_stop (Some h) None turns event outs ran stop = absurd ran

@@ -1,18 +1,18 @@
 -- What the history says of each session, what is owed to it, and which histories are legal. The newest entry is first.
-use Rattle.std.specs.Prelude.{◌≡◌, ℕ, suc, ◌+◌, ◌<◌, Bool, true, false, List, [], ◌∷◌, ◌++◌, flat_map, length, slice_index_or, slice_set, Option, Some, None, if◌then◌else◌}
+use Rattle.std.specs.Prelude.{◌≡◌, ℕ, suc, ◌+◌, ◌<◌, Bool, true, false, List, [], ◌∷◌, ◌++◌, flat_map, map, length, slice_index_or, slice_set, Option, Some, None, if◌then◌else◌}
 use Rattle.std.specs.Option.{is_some}
 use Rattle.of_frame.specs.declared.fault.FrameFault.{FrameFault}
 use Rattle.of_frame.specs.Cut.{Pending, nothing_yet, cut}
 use Rattle.mon_world.specs.declared.event.Side.{Side}
 use Rattle.mon_world.specs.declared.event.Side.TheVariants.{Controller, Switch}
 use Rattle.mon_world.specs.declared.event.Event.{Event}
-use Rattle.mon_world.specs.declared.event.Event.TheVariants.{Opened, Piece, Stop}
+use Rattle.mon_world.specs.declared.event.Event.TheVariants.{Opened, Piece, Closed}
 use Rattle.mon_world.specs.declared.event.Out.{Out}
 use Rattle.mon_world.specs.declared.event.Out.TheVariants.{Send, Close}
 use Rattle.mon_world.specs.declared.history.Entry.{Entry}
-use Rattle.mon_world.specs.declared.history.Entry.TheVariants.{Given, Put, End}
+use Rattle.mon_world.specs.declared.history.Entry.TheVariants.{Given, Noted, Put, End}
 use Rattle.mon_table.specs.declared.rule.Rule.{Rule}
-use Rattle.mon_world.specs.Logs.{entry_of, inputs, opened_in, NoStop, StopsNow}
+use Rattle.mon_world.specs.Logs.{entry_of, inputs, NoStop, StopsNow}
 use Rattle.mon_core.specs.Fates.{Fated, fated, fates, passed, errors, followed_all}
 
 -- what has come of both sides of a session, the table of the entries that the controller has on the switch, and whether
@@ -81,8 +81,9 @@ abbrev pub sessions : List Entry → List Sides
 sessions [] = []
 sessions (Given Opened ∷ h) = sessions h ++ fresh ∷ []
 sessions (Given (Piece n side bytes) ∷ h) = slice_set (sessions h) n (after_piece (session_at (sessions h) n) side bytes)
-sessions (Given Stop ∷ h) = sessions h
-sessions (Put n to frame ∷ h) = sessions h
+sessions (Given event ∷ h) = sessions h
+sessions (Noted note ∷ h) = sessions h
+sessions (Put n to frame lost ∷ h) = sessions h
 sessions (End n ∷ h) = slice_set (sessions h) n (closed (session_at (sessions h) n))
 
 abbrev pub sent : ℕ → Side → List (List ℕ) → List Out
@@ -128,7 +129,7 @@ on_event Opened core = (core ++ fresh ∷ [], [])
 on_event (Piece n side bytes) core =
     let session = session_at core n in
     (slice_set core n (after_turn session side bytes), from_piece n session side bytes)
-on_event Stop core = (core, [])
+on_event event core = (core, [])
 
 abbrev pub rest_of : List Out → List Out
 rest_of [] = []
@@ -139,19 +140,21 @@ abbrev pub owed : List Entry → List Out
 owed [] = []
 owed (Given Opened ∷ h) = []
 owed (Given (Piece n side bytes) ∷ h) = from_piece n (session_at (sessions h) n) side bytes
-owed (Given Stop ∷ h) = []
-owed (Put n to frame ∷ h) = rest_of (owed h)
+owed (Given event ∷ h) = []
+owed (Noted note ∷ h) = owed h
+owed (Put n to frame lost ∷ h) = rest_of (owed h)
 owed (End n ∷ h) = rest_of (owed h)
 
 abbrev pub IsFirst : Out → List Out → Type 0
 IsFirst out [] = ⊥
 IsFirst out (first ∷ outs) = first ≡ out
 
--- each output was owed as it was put, and each input came when nothing was owed
+-- each output was owed as it was put or lost, each input came when nothing was owed, and nothing is noted
 abbrev pub LegalSoFar : List Entry → Type 0
 LegalSoFar [] = Unit {0}
 LegalSoFar (Given event ∷ h) = (owed h ≡ []) × LegalSoFar h
-LegalSoFar (Put n to frame ∷ h) = IsFirst (Send n to frame) (owed h) × LegalSoFar h
+LegalSoFar (Noted note ∷ h) = ⊥
+LegalSoFar (Put n to frame lost ∷ h) = IsFirst (Send n to frame) (owed h) × LegalSoFar h
 LegalSoFar (End n ∷ h) = IsFirst (Close n) (owed h) × LegalSoFar h
 
 -- each turn is whole too
@@ -159,13 +162,24 @@ pub record Legal (h : List Entry) : Type 0 where
   pub so_far : LegalSoFar h
   pub whole : owed h ≡ []
 
--- each piece names a session that was opened
+-- how many sessions were opened
+abbrev pub openings : List Entry → ℕ
+openings [] = 0
+openings (Given Opened ∷ h) = openings h + 1
+openings (Given event ∷ h) = openings h
+openings (Noted note ∷ h) = openings h
+openings (Put n to frame lost ∷ h) = openings h
+openings (End n ∷ h) = openings h
+
+-- each piece and each closing names a session that was opened
 abbrev pub Named : List Entry → Type 0
 Named [] = Unit {0}
 Named (Given Opened ∷ h) = Named h
-Named (Given (Piece m from bytes) ∷ h) = (m < opened_in h) × Named h
-Named (Given Stop ∷ h) = Named h
-Named (Put m to frame ∷ h) = Named h
+Named (Given (Piece m from bytes) ∷ h) = (m < openings h) × Named h
+Named (Given (Closed m) ∷ h) = (m < openings h) × Named h
+Named (Given event ∷ h) = Named h
+Named (Noted note ∷ h) = Named h
+Named (Put m to frame lost ∷ h) = Named h
 Named (End m ∷ h) = Named h
 
 -- the core's state is the one that a legal history gives
@@ -178,17 +192,27 @@ pub record StandsFor (core : List Sides) (h : List Entry) : Type 0 where
 abbrev pub WasGiven : Event → List Sides → List Entry → Type 0
 WasGiven event core [] = ⊥
 WasGiven event core (Given last ∷ h) = (last ≡ event) × StandsFor core h
-WasGiven event core (Put n to frame ∷ h) = ⊥
-WasGiven event core (End n ∷ h) = ⊥
+WasGiven event core (entry ∷ h) = ⊥
+
+-- an output, by whether it was lost
+abbrev pub the_out : Bool × Out → Out
+the_out put = put.1
+
+abbrev pub outs_of : List (Bool × Out) → List Out
+outs_of puts = map the_out puts
 
 -- the outputs on a history, in order
-abbrev pub onto : List Out → List Entry → List Entry
+abbrev pub onto : List (Bool × Out) → List Entry → List Entry
 onto [] h = h
-onto (out ∷ outs) h = onto outs (entry_of out ∷ h)
+onto (put ∷ puts) h = onto puts (entry_of put.0 put.1 ∷ h)
 
-abbrev pub logged : List Out → Option (List Entry) → Option (List Entry)
-logged outs None = None
-logged outs (Some h) = Some (onto outs h)
+abbrev pub logged : List (Bool × Out) → Option (List Entry) → Option (List Entry)
+logged puts None = None
+logged puts (Some h) = Some (onto puts h)
+
+-- from the first log to the log now these outputs were put or lost, in order
+abbrev pub Carried : List Out → Option (List Entry) → Option (List Entry) → Type 0
+Carried outs before now = (puts : List (Bool × Out)) × (outs_of puts ≡ outs) × (now ≡ logged puts before)
 
 -- entries came in front of the first log, the newest first, and the log now is both
 abbrev pub Came : List Entry → List Entry → List Entry → Type 0

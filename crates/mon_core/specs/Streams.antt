@@ -4,13 +4,13 @@ use Rattle.std.specs.Option.{is_some}
 use Rattle.of_frame.specs.Cut.{nothing_yet, cut}
 use Rattle.mon_world.specs.declared.event.Side.{Side}
 use Rattle.mon_world.specs.declared.event.Side.TheVariants.{Controller, Switch}
-use Rattle.mon_world.specs.declared.event.Event.TheVariants.{Opened, Piece, Stop}
+use Rattle.mon_world.specs.declared.event.Event.TheVariants.{Opened, Piece}
 use Rattle.mon_world.specs.declared.history.Entry.{Entry}
-use Rattle.mon_world.specs.declared.history.Entry.TheVariants.{Given, Put, End}
-use Rattle.mon_world.specs.Logs.{opened_in}
+use Rattle.mon_world.specs.declared.history.Entry.TheVariants.{Given, Noted, Put, End}
 use Rattle.mon_table.specs.declared.rule.Rule.{Rule}
 use Rattle.mon_table.specs.declared.edit.Edit.{Edit}
 use Rattle.mon_table.specs.Edits.{after_all}
+use Rattle.mon_core.specs.History.{openings}
 use Rattle.mon_core.specs.Fates.{passed_all, errors_all, edits_all}
 
 abbrev pub same_side : Side → Side → Bool
@@ -23,7 +23,8 @@ same_side Switch Switch = true
 abbrev pub has_ended : ℕ → List Entry → Bool
 has_ended n [] = false
 has_ended n (Given event ∷ h) = has_ended n h
-has_ended n (Put m to frame ∷ h) = has_ended n h
+has_ended n (Noted note ∷ h) = has_ended n h
+has_ended n (Put m to frame lost ∷ h) = has_ended n h
 has_ended n (End m ∷ h) = (m == n) || has_ended n h
 
 -- the bytes of a side's pieces, in order, up to the end of the session
@@ -32,15 +33,17 @@ stream n side [] = []
 stream n side (Given Opened ∷ h) = stream n side h
 stream n side (Given (Piece m from bytes) ∷ h) =
     if (m == n) && (same_side from side && not (has_ended n h)) then stream n side h ++ bytes else stream n side h
-stream n side (Given Stop ∷ h) = stream n side h
-stream n side (Put m to frame ∷ h) = stream n side h
+stream n side (Given event ∷ h) = stream n side h
+stream n side (Noted note ∷ h) = stream n side h
+stream n side (Put m to frame lost ∷ h) = stream n side h
 stream n side (End m ∷ h) = stream n side h
 
--- the frames that were put to a side, in order
+-- the frames that were put to a side or lost on the way there, in order
 abbrev pub puts : ℕ → Side → List Entry → List (List ℕ)
 puts n to [] = []
 puts n to (Given event ∷ h) = puts n to h
-puts n to (Put m side frame ∷ h) = if (m == n) && same_side side to then puts n to h ++ frame ∷ [] else puts n to h
+puts n to (Noted note ∷ h) = puts n to h
+puts n to (Put m side frame lost ∷ h) = if (m == n) && same_side side to then puts n to h ++ frame ∷ [] else puts n to h
 puts n to (End m ∷ h) = puts n to h
 
 -- the side's stream has a header with a fault
@@ -75,8 +78,9 @@ brought_in n [] = []
 brought_in n (Given Opened ∷ h) = brought_in n h
 brought_in n (Given (Piece m from bytes) ∷ h) =
     if (m == n) && not (has_ended n h) then brought_in n h ++ brought n from bytes h else brought_in n h
-brought_in n (Given Stop ∷ h) = brought_in n h
-brought_in n (Put m to frame ∷ h) = brought_in n h
+brought_in n (Given event ∷ h) = brought_in n h
+brought_in n (Noted note ∷ h) = brought_in n h
+brought_in n (Put m to frame lost ∷ h) = brought_in n h
 brought_in n (End m ∷ h) = brought_in n h
 
 -- to the switch went what the fates give of all frames of the controller's whole stream, beginning with no entry;
@@ -94,13 +98,14 @@ armed_below (suc n) h = if has_ended n h then armed_below n h else armed_below n
 
 -- the armed sessions by rising number, each with the expected entries: a session is armed from its opening to its end
 abbrev pub armed_in : List Entry → List (ℕ × List Rule)
-armed_in h = armed_below (opened_in h) h
+armed_in h = armed_below (openings h) h
 
 -- a fact holds wherever an earlier turn has ended, which is before each input
 abbrev pub BeforeInputs : (List Entry → Type 0) → List Entry → Type 0
 BeforeInputs P [] = Unit {0}
 BeforeInputs P (Given event ∷ h) = P h × BeforeInputs P h
-BeforeInputs P (Put n to frame ∷ h) = BeforeInputs P h
+BeforeInputs P (Noted note ∷ h) = BeforeInputs P h
+BeforeInputs P (Put n to frame lost ∷ h) = BeforeInputs P h
 BeforeInputs P (End n ∷ h) = BeforeInputs P h
 
 -- and at the end of the last turn too

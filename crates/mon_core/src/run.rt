@@ -6,7 +6,7 @@ ghost use Rattle.mon_world.specs.Logs.{IsStop};
 ghost use Rattle.mon_core.specs.History.{LegalSoFar, StandsFor, Ran, RanToStop};
 
 use crate::sessions::Core;
-use mon_world::{Event, Hub, HubFault};
+use mon_world::{Event, Gates, Hub, HubFault};
 use std::alloc::Global;
 
 /// How a loop ended.
@@ -41,8 +41,10 @@ pub fn run_loop<H: Hub>(alloc: Global, core: &mut Core, hub: &mut H, turns: u64)
     ensures unstopped { result ≡ LoopEnd.HubFailed → (n : ℕ) × Ran (H.log hub.old) (H.log hub.new) n }
     ensures script { H.script hub.new ≡ H.script hub.old }
 {
+    // To come: no session is gated yet.
+    let gates = Gates::new(alloc);
     for _ in 0..turns {
-        let event = match hub.next(alloc) {
+        let event = match hub.next(alloc, &gates) {
             Ok(event) => event,
             Err(HubFault::Failed) => return LoopEnd::HubFailed,
             Err(HubFault::OutOfMemory) => return LoopEnd::OutOfMemory,

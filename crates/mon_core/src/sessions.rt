@@ -1,6 +1,6 @@
 //! All sessions.
 
-ghost use Rattle.std.specs.Prelude.{◌≡◌, ◌≤◌, List, [], length, slice_get, Some, IfOk, MatchOption};
+ghost use Rattle.std.specs.Prelude.{◌≡◌, ◌≤◌, ◌<◌, ◌^◌, List, [], length, slice_get, Some, IfOk, MatchOption};
 ghost use Rattle.mon_world.specs.Logs.{NamesOpened};
 ghost use Rattle.mon_core.specs.History.{Sides, on_event, armed};
 
@@ -50,6 +50,14 @@ impl Core {
         None
     }
 
+    /// How many sessions were opened.
+    pub(crate) fn len(&self) -> usize
+        ensures value { result ≡ length self.now }
+        ensures small { result < 2 ^ 63 }
+    {
+        self.sessions.len()
+    }
+
     /// What an event makes of the sessions, and what it leads to.
     #[tactic(auto, unfolding(crate::specs::History::on_event))]
     pub(crate) fn on_event(&mut self, alloc: Global, event: Event) -> Result<Vec<Out>, OutOfMemory>
@@ -67,6 +75,8 @@ impl Core {
                 let of_piece = &mut self.sessions[session as usize];
                 of_piece.piece(alloc, session, side, bytes.bytes(), &mut outs)?;
             }
+            // To come: closings, ticks and answers do nothing yet.
+            Event::Closed { .. } | Event::Tick | Event::Answer { .. } | Event::Idle => {}
             Event::Stop => {}
         }
         Ok(outs)

@@ -1,24 +1,39 @@
 //! One turn: what an event leads to is put out.
 
-ghost use Rattle.std.specs.Prelude.{◌≡◌, ◌≤◌, ℕ, List, length, take, IfSome, OnOk, OnErr};
+ghost use Rattle.std.specs.Prelude.{◌≡◌, ◌≤◌, ℕ, Bool, List, length, take, IfSome, OnOk, OnErr};
 ghost use Rattle.mon_world.specs.declared.event.Out.{Out};
-ghost use Rattle.mon_world.specs.Logs.{opened_by, NamesOpened};
-ghost use Rattle.mon_core.specs.History.{LegalSoFar, StandsFor, WasGiven, logged};
+ghost use Rattle.mon_world.specs.Logs.{longer, entry_of, opened_by, NamesOpened};
+ghost use Rattle.mon_core.specs.History.{LegalSoFar, StandsFor, WasGiven, Carried, logged};
 
 use crate::sessions::Core;
-use mon_world::{Event, Hub, Out, OutOfMemory};
+use mon_world::{Event, Hub, Out, OutOfMemory, PutFault};
 use std::alloc::Global;
+
+/// Puts an output. It may be lost: to come, that this ends its session.
+fn put<H: Hub>(alloc: Global, out: &Out, hub: &mut H) -> Result<(), OutOfMemory>
+    ensures log { OnOk result ((lost : Bool) × (H.log hub.new ≡ longer (entry_of lost out.now) (H.log hub.old))) }
+    ensures same { OnErr result (H.log hub.new ≡ H.log hub.old) }
+    ensures opened { H.opened hub.new ≡ H.opened hub.old }
+    ensures script { H.script hub.new ≡ H.script hub.old }
+    ensures faults { H.hub_faults hub.new ≡ H.hub_faults hub.old }
+{
+    match hub.put(alloc, out) {
+        Ok(()) => Ok(()),
+        Err(PutFault::Lost) => Ok(()),
+        Err(PutFault::OutOfMemory) => Err(OutOfMemory),
+    }
+}
 
 /// Puts the outputs in order.
 fn carry_out<H: Hub>(alloc: Global, outs: &[Out], hub: &mut H) -> Result<(), OutOfMemory>
-    ensures log { OnOk result (H.log hub.new ≡ logged outs.now (H.log hub.old)) }
-    ensures some { OnErr result ((n : ℕ) × (H.log hub.new ≡ logged (take n outs.now) (H.log hub.old))) }
+    ensures log { OnOk result (Carried outs.now (H.log hub.old) (H.log hub.new)) }
+    ensures some { OnErr result ((n : ℕ) × Carried (take n outs.now) (H.log hub.old) (H.log hub.new)) }
     ensures opened { H.opened hub.new ≡ H.opened hub.old }
     ensures script { H.script hub.new ≡ H.script hub.old }
     ensures faults { H.hub_faults hub.old ≤ H.hub_faults hub.new }
 {
     for out in outs {
-        hub.put(alloc, out)?;
+        put(alloc, out, hub)?;
     }
     Ok(())
 }
@@ -38,11 +53,12 @@ impl Core {
         ensures opened { OnOk result (length self.new ≡ H.opened hub.new) }
         ensures stands { OnOk result (IfSome (H.log hub.new) (StandsFor self.new)) }
         ensures so_far { IfSome (H.log hub.new) LegalSoFar }
-        ensures put { (outs : List Out) × (H.log hub.new ≡ logged outs (H.log hub.old)) }
+        ensures put { (puts : List (Bool × Out)) × (H.log hub.new ≡ logged puts (H.log hub.old)) }
         ensures script { H.script hub.new ≡ H.script hub.old }
         ensures faults { H.hub_faults hub.old ≤ H.hub_faults hub.new }
     {
         let outs = self.on_event(alloc, event)?;
+        let _ = self.len();
         carry_out(alloc, &outs, hub)?;
         Ok(())
     }

@@ -2,16 +2,15 @@
 use Rattle.std.proofs.Common.{◌≡◌, ℕ, zero, suc, ◌<◌, Bool, true, false, cond, List, [], ◌∷◌, length, take, drop, Option, Some, None, refl, sym, ap, ◌∙◌, arith, add-one}
 use Rattle.std.specs.Prelude.{◌==◌}
 use Rattle.memchr.specs.Find.{Nowhere, IsFirstByte, Passes, is_byte}
-use Rattle.mon_trace.specs.Grammar.{lines_of, line_before, byte_before}
+use Rattle.mon_trace.specs.Grammar.{Lines, lines_of, line_before, byte_before}
 use Rattle.mon_trace.specs.Reading.{FirstLine}
 
 not_true : (b : Bool) → (b ≡ true → ⊥) → b ≡ false
 not_true true h = absurd (h refl)
 not_true false h = refl
 
-byte_line : (byte : ℕ) (line : List ℕ) (lines : Option (List (List ℕ))) → byte_before byte (line_before line lines) ≡ line_before (byte ∷ line) lines
-byte_line byte line None = refl
-byte_line byte line (Some lines) = refl
+byte_line : (byte : ℕ) (line : List ℕ) (lines : Lines) → byte_before byte (line_before line lines) ≡ line_before (byte ∷ line) lines
+byte_line byte line lines = refl
 
 -- the same of the bytes behind the first
 later : (byte : ℕ) (bytes : List ℕ) (n : ℕ) → Nowhere (Passes (is_byte 10) (byte ∷ bytes)) 0 (suc n) → Nowhere (Passes (is_byte 10) bytes) 0 n
@@ -26,19 +25,13 @@ splits (byte ∷ bytes) (suc n) within none here =
     ∙ ap (byte_before byte) (splits bytes n (omega arith) (later byte bytes n none) here)
     ∙ byte_line byte (take n bytes) (lines_of (drop (suc n) bytes))
 
-unended_from : (byte : ℕ) (bytes : List ℕ) → Nowhere (Passes (is_byte 10) (byte ∷ bytes)) 0 (length (byte ∷ bytes)) → lines_of (byte ∷ bytes) ≡ None
-unended_from byte [] none =
+pub unended : (text : List ℕ) → Nowhere (Passes (is_byte 10) text) 0 (length text) → lines_of text ≡ record { ended = []; rest = text }
+unended [] none = refl
+unended (byte ∷ bytes) none =
     let other : (byte == 10) ≡ false = not_true (byte == 10) (none 0 (omega arith) (omega arith)) in
-    ap (λ (b : Bool). cond b (line_before [] (lines_of [])) (byte_before byte (lines_of []))) other
-unended_from byte (next ∷ bytes) none =
-    let other : (byte == 10) ≡ false = not_true (byte == 10) (none 0 (omega arith) (omega arith)) in
-    ap (λ (b : Bool). cond b (line_before [] (lines_of (next ∷ bytes))) (byte_before byte (lines_of (next ∷ bytes)))) other
-    ∙ ap (byte_before byte) (unended_from next bytes (later byte (next ∷ bytes) (length (next ∷ bytes)) none))
+    ap (λ (b : Bool). cond b (line_before [] (lines_of bytes)) (byte_before byte (lines_of bytes))) other
+    ∙ ap (byte_before byte) (unended bytes (later byte bytes (length bytes) none))
 
-pub unended : (text : List ℕ) → 0 < length text → Nowhere (Passes (is_byte 10) text) 0 (length text) → lines_of text ≡ None
-unended [] some none = absurd (let f : ⊥ = omega arith in f)
-unended (byte ∷ bytes) some none = unended_from byte bytes none
-
-pub first_line : (text : List ℕ) (found : Option ℕ) → 0 < length text → IsFirstByte (is_byte 10) text found → FirstLine text found
-first_line text None some first = unended text some first
-first_line text (Some n) some first = (first.0.high, splits text n first.0.high first.0.before first.1 ∙ ap (λ (k : ℕ). line_before (take n text) (lines_of (drop k text))) (sym (add-one n)))
+pub first_line : (text : List ℕ) (found : Option ℕ) → IsFirstByte (is_byte 10) text found → FirstLine text found
+first_line text None first = unended text first
+first_line text (Some n) first = (first.0.high, splits text n first.0.high first.0.before first.1 ∙ ap (λ (k : ℕ). line_before (take n text) (lines_of (drop k text))) (sym (add-one n)))

@@ -1,36 +1,45 @@
 //! The text of a trace.
 
-ghost use Rattle.std.specs.Prelude.{◌≡◌, ◌<◌, ◌^◌, length};
+ghost use Rattle.std.specs.Prelude.{◌≡◌, ◌<◌, ◌^◌, ◌+◌, length};
 ghost use Rattle.mon_text.specs.Reads.{Reads};
-ghost use Rattle.mon_trace.specs.Grammar.{record_of, switch_record, is_open, key_of, trace_of, lines_of};
-ghost use Rattle.mon_trace.specs.Reading.{pieces_in, events_in, onto, one};
+ghost use Rattle.mon_trace.specs.Grammar.{key_of, trace_of};
+ghost use Rattle.mon_trace.specs.Reading.{Gives, records_of};
+ghost use Rattle.mon_trace.specs.Run.{events_of};
+ghost use Rattle.mon_trace.specs.ToCome.{first_other};
 ghost use Rattle.mon_world.specs.Logs.{AllNamed, NoStop};
 
 use crate::events::Events;
 use crate::hexadecimal::push_bytes;
 use crate::lines::{before, behind, end_of_line};
+use crate::records::Reading;
 use byteorder::{BigEndian, ByteOrder};
-use mon_text::TextFault;
-use mon_world::Side;
+use mon_text::{FileFault, TextFault};
 use std::alloc::Global;
 use std::marker::Model;
 
-/// The key and the events of a trace. Of its events none is Stop, and each names a session that was opened by then.
+/// The key and the records of a trace. Of its events none is Stop, and each names a session that was opened by then.
 #[derive(Drop)]
 pub struct Trace {
     key: u64,
     events: Events,
+    losing: u64,
 }
 
 impl Model for Trace {
     ghost use Rattle.mon_trace.specs.Grammar.{Traced};
+    ghost use Rattle.mon_trace.specs.Run.{the_event};
+    ghost use Rattle.std.specs.Prelude.{map, ◌<◌, ◌^◌};
     ghost use Rattle.mon_world.specs.Logs.{AllNamed, NoStop};
 
     ghost Value = { Traced };
 
-    ghost view = { λ t. record { key = t.key; events = t.events } };
+    ghost view = { λ t. record { key = t.key; events = t.events; losing = t.losing } };
 
-    ghost invariant = { λ t. AllNamed 0 t.events × NoStop t.events };
+    ghost invariant = { λ t. record {
+      named : AllNamed 0 (map the_event t.events);
+      unstopped : NoStop (map the_event t.events);
+      few : t.losing < 2 ^ 63;
+    } };
 }
 
 impl Trace {
@@ -41,93 +50,73 @@ impl Trace {
         self.key
     }
 
-    /// The number of records, each of which is an event.
+    /// The number of records: those that are events, and the `lose` records.
     pub fn records(&self) -> u64
-        ensures value { result ≡ length self.now.events }
-        ensures small { result < 2 ^ 63 }
+        ensures value { result ≡ length self.now.events + self.now.losing }
+        ensures small { result + 1 < 2 ^ 64 }
     {
-        self.events.len() as u64
+        self.events.len() as u64 + self.losing
+    }
+
+    /// The number of `lose` records.
+    pub(crate) fn losing(&self) -> u64
+        ensures { result ≡ self.now.losing }
+    {
+        self.losing
+    }
+
+    /// Where the first record begins that a replay does not follow yet: one that is neither an opening nor a piece, or
+    /// that stands behind a `lose` record.
+    pub fn first_other(&self) -> Option<u64>
+        ensures { result ≡ first_other self.now.events }
+    {
+        match self.events.first_other() {
+            Some(offset) => Some(offset as u64),
+            None => None,
+        }
     }
 
     /// Does nothing: its clauses are what the type keeps.
     pub(crate) fn keeps(&self)
-        ensures named { AllNamed 0 self.now.events }
-        ensures unstopped { NoStop self.now.events }
+        ensures named { AllNamed 0 (events_of self.now) }
+        ensures unstopped { NoStop (events_of self.now) }
     {
         let _ = &self.events;
     }
 
     pub(crate) fn events(&self) -> &Events
         ensures value { result.now ≡ self.now.events }
-        ensures named { AllNamed 0 self.now.events }
-        ensures unstopped { NoStop self.now.events }
     {
         &self.events
     }
 }
 
-/// Reads a record after the first.
-#[tactic(auto, unfolding(crate::specs::Grammar::record_of))]
-fn read_record(line: &[u8], events: &mut Events) -> Result<(), TextFault>
-    ensures { Reads (λ _. events.new) result (onto events.old (one (record_of line.now))) }
+/// Reads the records of a text that begins at this offset.
+fn read_records(
+    alloc: Global,
+    text: &[u8],
+    offset: usize,
+) -> Result<(Events, u64), FileFault>
+    requires { offset + length text.now < 2 ^ 63 }
+    ensures { Gives (λ x. x) result (records_of offset 0 0 text.now) }
 {
-    if line.starts_with(b"from controller 0 ") {
-        events.push_piece(Side::Controller, &line[18..])
-    } else {
-        read_switch_record(line, events)
-    }
-}
-
-#[tactic(auto, unfolding(crate::specs::Grammar::switch_record))]
-fn read_switch_record(line: &[u8], events: &mut Events) -> Result<(), TextFault>
-    ensures { Reads (λ _. events.new) result (onto events.old (one (switch_record line.now))) }
-{
-    if line.starts_with(b"from switch 0 ") {
-        events.push_piece(Side::Switch, &line[14..])
-    } else {
-        Err(TextFault::Bad)
-    }
-}
-
-/// Reads the records after the first.
-fn read_pieces(text: &[u8], events: &mut Events) -> Result<(), TextFault>
-    ensures { Reads (λ _. events.new) result (onto events.old (pieces_in (lines_of text.now))) }
-{
+    // A piece of n bytes has a line of more than 2 n.
+    let events = Events::new(alloc, text.len() / 2)?;
+    let mut reading = Reading::new(events, offset);
     let mut rest = text;
     while !rest.is_empty() {
         let Some(end) = end_of_line(rest) else {
-            return Err(TextFault::Bad);
+            return Err(FileFault::Bad {
+                offset: reading.offset() as u64,
+            });
         };
-        read_record(before(rest, end), events)?;
+        match reading.take(before(rest, end)) {
+            Ok(()) => {}
+            Err(fault) => return Err(fault),
+        }
         rest = behind(rest, end);
     }
-    Ok(())
-}
-
-fn opens(line: &[u8]) -> bool
-    ensures { result ≡ is_open line.now }
-{
-    line.starts_with(b"open") && line.len() == 4
-}
-
-/// Reads all records.
-fn read_events(alloc: Global, text: &[u8]) -> Result<Events, TextFault>
-    ensures { Reads (λ events. events) result (events_in (lines_of text.now)) }
-{
-    // A piece of n bytes has a line of more than 2 n.
-    let mut events = Events::new(alloc, text.len() / 2)?;
-    if text.is_empty() {
-        return Ok(events);
-    }
-    let Some(end) = end_of_line(text) else {
-        return Err(TextFault::Bad);
-    };
-    if !opens(before(text, end)) {
-        return Err(TextFault::Bad);
-    }
-    events.push_opening()?;
-    read_pieces(behind(text, end), &mut events)?;
-    Ok(events)
+    Ok(reading.into_parts())
 }
 
 /// The key of the first line.
@@ -143,17 +132,29 @@ fn read_key(alloc: Global, line: &[u8]) -> Result<u64, TextFault>
     Ok(BigEndian::read_u64(&bytes))
 }
 
-/// The trace that a text is, or that it is none.
-pub fn read_trace(alloc: Global, text: &[u8]) -> Result<Trace, TextFault>
-    ensures { Reads (λ t. t) result (trace_of text.now) }
+/// The trace that a text is, or where it is none.
+pub fn read_trace(alloc: Global, text: &[u8]) -> Result<Trace, FileFault>
+    ensures { Gives (λ t. t) result (trace_of text.now) }
 {
     if text.is_empty() {
-        return Err(TextFault::Bad);
+        return Err(FileFault::Bad { offset: 0 });
     }
     let Some(end) = end_of_line(text) else {
-        return Err(TextFault::Bad);
+        return Err(FileFault::Bad { offset: 0 });
     };
-    let key = read_key(alloc, before(text, end))?;
-    let events = read_events(alloc, behind(text, end))?;
-    Ok(Trace { key, events })
+    let key = match read_key(alloc, before(text, end)) {
+        Ok(key) => key,
+        Err(TextFault::Bad) => return Err(FileFault::Bad { offset: 0 }),
+        Err(TextFault::OutOfMemory) => return Err(FileFault::OutOfMemory),
+    };
+    let (events, losing) = read_records(alloc, behind(text, end), end + 1)?;
+    // No text in memory has so many records.
+    if losing >= 1 << 63 {
+        return Err(FileFault::OutOfMemory);
+    }
+    Ok(Trace {
+        key,
+        events,
+        losing,
+    })
 }

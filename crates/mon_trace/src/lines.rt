@@ -7,7 +7,6 @@ use memchr::memchr;
 
 /// The place of the line feed that ends the first line.
 pub(crate) fn end_of_line(text: &[u8]) -> Option<usize>
-    requires { 0 < length text.now }
     ensures { FirstLine text.now result }
 {
     memchr(b'\n', text)

@@ -3,7 +3,8 @@
 ghost use Rattle.std.specs.Prelude.{◌≤◌, length};
 
 use crate::{Trace, TraceFault, TraceHub, read_trace};
-use mon_world::{Event, Hub, Out, OutOfMemory, Side};
+use mon_report::{Cause, Line};
+use mon_world::{Event, Gates, Hub, HubFault, Kind, Note, Out, OutOfMemory, PutFault, Side};
 use of_frame::Frame;
 use std::alloc::Global;
 use std::test::Fail;
@@ -27,14 +28,18 @@ fn with_piece(alloc: Global, size: usize) -> Result<Trace, TraceFault> {
     with_records(alloc, &records)
 }
 
+const RECORDS: &[u8] =
+    b"open\nopen\nfrom controller 1 09af\nlose\nfrom switch 0 00\ntick\nanswer 4294967295\nclose 1\n";
+
 #[test]
 fn reads_a_trace(rt: HostRuntime) -> Result<(), Fail> {
     let alloc = rt.alloc();
-    let trace = with_records(alloc, b"open\nfrom controller 0 09af\nfrom switch 0 00\n")?;
+    let trace = with_records(alloc, RECORDS)?;
     assert_eq!(rt; trace.key(), 255);
-    assert_eq!(rt; trace.records(), 3);
+    assert_eq!(rt; trace.records(), 8);
+    assert_eq!(rt; trace.first_other(), Some(71));
     assert_eq!(rt; with_records(alloc, b"")?.records(), 0);
-    assert_eq!(rt; with_piece(alloc, 4096)?.records(), 2);
+    assert_eq!(rt; with_piece(alloc, 4096)?.first_other(), None);
     assert_eq!(rt;
         read_trace(alloc, b"monocle-trace 1 fedcba9876543210\n")?.key(),
         0xfedc_ba98_7654_3210
@@ -43,46 +48,53 @@ fn reads_a_trace(rt: HostRuntime) -> Result<(), Fail> {
 }
 
 #[test]
-fn refuses_what_is_no_trace(rt: HostRuntime) -> Result<(), Fail> {
+fn says_where_a_text_is_no_trace(rt: HostRuntime) -> Result<(), Fail> {
     let alloc = rt.alloc();
-    let bad = Some(TraceFault::Bad);
-    let texts: [&[u8]; 7] = [
+    let texts: [&[u8]; 5] = [
         b"",
         b"monocle-trace 1 00000000000000ff",
         b"monocle-trace 1 0000000000000ff\n",
         b"monocle-trace 1 00000000000000FF\n",
-        b"monocle-trace 1 00000000000000ff\r\n",
         b"monocle-trace 2 00000000000000ff\n",
-        b"monocle-trace 1  0000000000000ff\n",
     ];
     for text in texts {
-        assert_eq!(rt; read_trace(alloc, text).err(), bad);
+        assert_eq!(rt; read_trace(alloc, text).err(), Some(TraceFault::Bad { offset: 0 }));
     }
-    let records: [&[u8]; 11] = [
+    let first: [&[u8]; 7] = [
         b"open",
         b"open\r\n",
         b"\n",
-        b"open\nopen\n",
-        b"from switch 0 00\nopen\n",
+        b"from switch 0 00\n",
+        b"tick \n",
+        b"answer 4294967296\n",
+        b"loses\n",
+    ];
+    for text in first {
+        assert_eq!(rt; with_records(alloc, text).err(), Some(TraceFault::Bad { offset: 33 }));
+    }
+    let second: [&[u8]; 8] = [
         b"open\nfrom controller 0 0\n",
         b"open\nfrom controller 0 0A\n",
         b"open\nfrom controller 0 \n",
         b"open\nfrom controller 1 00\n",
+        b"open\nfrom controller 00 00\n",
         b"open\nfrom switch 0 00 \n",
-        b"open\nfrom switch 0 00\nclose 0\n",
+        b"open\nclose 1\n",
+        b"open\nclose 0",
     ];
-    for text in records {
-        assert_eq!(rt; with_records(alloc, text).err(), bad);
+    for text in second {
+        assert_eq!(rt; with_records(alloc, text).err(), Some(TraceFault::Bad { offset: 38 }));
     }
-    assert_eq!(rt; with_piece(alloc, 4097).err(), bad);
+    assert_eq!(rt; with_piece(alloc, 4097).err(), Some(TraceFault::Bad { offset: 38 }));
     Ok(())
 }
 
 /// Takes so many events of a hub, and says whether the last one was Stop.
 fn stops(alloc: Global, hub: &mut TraceHub, count: u64) -> bool {
+    let gates = Gates::new(alloc);
     let mut stopped = false;
     for _ in 0..count {
-        stopped = matches!(hub.next(alloc), Ok(Event::Stop));
+        stopped = matches!(hub.next(alloc, &gates), Ok(Event::Stop));
     }
     stopped
 }
@@ -121,18 +133,72 @@ fn writes_a_line_for_each_output(rt: HostRuntime) -> Result<(), Fail> {
 }
 
 #[test]
-fn writes_the_end_of_a_session(rt: HostRuntime) -> Result<(), Fail> {
+fn loses_what_the_trace_says(rt: HostRuntime) -> Result<(), Fail> {
     let alloc = rt.alloc();
-    let mut hub = TraceHub::new(alloc, with_piece(alloc, 1)?)?;
+    let trace = with_records(alloc, b"open\nlose\nfrom switch 0 00\nlose\n")?;
+    let mut hub = TraceHub::new(alloc, trace)?;
     assert!(rt; !stops(alloc, &mut hub, 2));
-    hub.put(
-        alloc,
-        &send(alloc, Side::Controller, 10, 0, b"\xab\xcd\xef")?,
-    )?;
+    let out = send(alloc, Side::Controller, 10, 0, b"\xab\xcd\xef")?;
     hub.put(alloc, &Out::Close { session: 0 })?;
+    assert_eq!(rt; hub.put(alloc, &out), Err(PutFault::Lost));
+    hub.put(alloc, &out)?;
     assert_eq!(rt;
         hub.text().as_slice(),
-        b"2 put 0 controller 010a000b00000000abcdef\n2 end 0\n".as_slice()
+        b"3 end 0\n3 lost 0 controller 010a000b00000000abcdef\n3 put 0 controller 010a000b00000000abcdef\n".as_slice()
     );
+    Ok(())
+}
+
+#[test]
+fn gives_no_answer_of_a_job_that_is_not_there(rt: HostRuntime) -> Result<(), Fail> {
+    let alloc = rt.alloc();
+    let mut hub = TraceHub::new(alloc, with_records(alloc, b"open\nanswer 0\n")?)?;
+    let gates = Gates::new(alloc);
+    assert!(rt; !stops(alloc, &mut hub, 1));
+    assert!(rt; matches!(hub.next(alloc, &gates), Err(HubFault::Failed)));
+    assert_eq!(rt; hub.bad(), Some(38));
+    hub.mark(
+        alloc,
+        &Note::Offer {
+            job: 1,
+            session: 0,
+            edit: 2,
+            version: 3,
+        },
+    )?;
+    assert!(rt; matches!(hub.next(alloc, &gates), Ok(Event::Answer { index: 0 })));
+    hub.mark(
+        alloc,
+        &Note::Verdict {
+            job: 1,
+            kind: Kind::Skipped,
+        },
+    )?;
+    hub.mark(
+        alloc,
+        &Note::Report(Line::Closed {
+            session: 0,
+            cause: Cause::Peer,
+        }),
+    )?;
+    assert_eq!(rt;
+        hub.text().as_slice(),
+        b"1 offer 1 0 2 3\n2 verdict 1 skipped\n2 line {\"cause\":\"peer\",\"event\":\"closed\",\"session\":0}\n".as_slice()
+    );
+    Ok(())
+}
+
+#[test]
+fn gives_no_piece_of_a_gated_controller(rt: HostRuntime) -> Result<(), Fail> {
+    let alloc = rt.alloc();
+    let trace = with_records(alloc, b"open\nfrom controller 0 00\nfrom switch 0 00\n")?;
+    let mut hub = TraceHub::new(alloc, trace)?;
+    let mut gates = Gates::new(alloc);
+    gates.push(0)?;
+    assert!(rt; matches!(hub.next(alloc, &gates), Ok(Event::Opened)));
+    assert!(rt; matches!(hub.next(alloc, &gates), Err(HubFault::Failed)));
+    assert_eq!(rt; hub.bad(), Some(38));
+    assert!(rt; !stops(alloc, &mut hub, 1));
+    assert!(rt; matches!(hub.next(alloc, &gates), Ok(Event::Piece { .. })));
     Ok(())
 }

@@ -1,5 +1,5 @@
 -- How the parts of a run end it.
-use Rattle.std.proofs.Common.{◌≡◌, ◌<◌, ℕ, Bool, true, false, List, [], ◌∷◌, ◌++◌, Option, Some, None, IfSome, inl, inr, refl, sym, ap, subst, ◌∙◌, codes}
+use Rattle.std.proofs.Common.{◌≡◌, ◌<◌, ℕ, Bool, true, false, List, [], ◌∷◌, ◌++◌, Option, Some, None, Ok, Err, IfSome, inl, inr, refl, sym, ap, subst, ◌∙◌, codes}
 use Rattle.mon_trace.specs.Grammar.{Traced, trace_of}
 use Rattle.mon_words.specs.declared.command.Command.{Command}
 use Rattle.mon_words.specs.declared.command.Command.TheVariants as command
@@ -9,9 +9,9 @@ use Rattle.mon_words.specs.Words.{Spells}
 use Rattle.mon_world.specs.declared.calls.Call.{Call}
 use Rattle.mon_world.specs.declared.calls.Call.TheVariants.{Read, Write, Say}
 use Rattle.monocle.specs.Calls.{said_by}
-use Rattle.monocle.specs.Ending.{unread, bad_at, IsSay, IsWant, IsReadEnd, IsWriteEnd, reads_of, IsSourceEnd, IsTraceEnd, IsFileEnd, IsEndOf, IsEndFor}
+use Rattle.monocle.specs.Ending.{unread, bad_at, IsSay, IsBadSay, IsWant, IsReadEnd, IsWriteEnd, reads_of, IsSourceEnd, IsTraceEnd, IsFileEnd, IsEndOf, IsEndFor}
 use Rattle.monocle.specs.Planning.{Contents, GivesNone, GivesSome, HasNoSpelling}
-use Rattle.monocle.specs.Replay.{IsTraceFile, IsNoTrace}
+use Rattle.monocle.specs.Replay.{IsTraceFile, IsUnfollowed, CantRun}
 
 -- calls that say nothing
 abbrev pub AreSilent : List Call → Type 0
@@ -53,18 +53,34 @@ trace-end told settings trace status calls (inl gone) = inr (inl (gone.0, ap (λ
 trace-end told settings trace status calls (inr want) = inr (inr (inr want))
 
 pub no-trace : (told : Option Contents) (settings trace before content read : List ℕ) → IfSome told (λ files. files settings ≡ Some before) → IfSome told (λ files. files trace ≡ Some content)
-    → read ≡ content → trace_of read ≡ None → IfSome told (λ files. IsNoTrace files settings trace)
-no-trace None settings trace before content read first next same none = first
-no-trace (Some files) settings trace before content read first next same none = ((before, first), (content, next, ap trace_of (sym same) ∙ none))
+    → (offset : ℕ) → read ≡ content → trace_of read ≡ Err offset → IfSome told (λ files. CantRun files settings trace offset)
+no-trace None settings trace before content read first next offset same none = first
+no-trace (Some files) settings trace before content read first next offset same none = inl ((before, first), (content, next, ap trace_of (sym same) ∙ none))
+
+-- a trace that can't be run
+pub cant-run : (told : Option Contents) (settings trace : List ℕ) (x : Traced) (offset : ℕ) → IfSome told (λ files. IsTraceFile files settings trace x) → IsUnfollowed x offset → IfSome told (λ files. CantRun files settings trace offset)
+cant-run None settings trace x offset found bad = found
+cant-run (Some files) settings trace x offset found bad = inr (x, found, bad)
 
 pub trace-found : (told : Option Contents) (settings trace before content read : List ℕ) (x : Traced) → IfSome told (λ files. files settings ≡ Some before) → IfSome told (λ files. files trace ≡ Some content)
-    → read ≡ content → trace_of read ≡ Some x → IfSome told (λ files. IsTraceFile files settings trace x)
+    → read ≡ content → trace_of read ≡ Ok x → IfSome told (λ files. IsTraceFile files settings trace x)
 trace-found None settings trace before content read x first next same found = first
 trace-found (Some files) settings trace before content read x first next same found = ((before, first), (content, next, ap trace_of (sym same) ∙ found))
 
-pub trace-bad : (told : Option Contents) (settings trace : List ℕ) (status : ℕ) → status ≡ 5 → IfSome told (λ files. IsNoTrace files settings trace)
-    → (calls : List Call) → IsSay (codes "monocle: trace\n") calls → IsTraceEnd told settings trace status (Read settings true ∷ Read trace true ∷ calls)
-trace-bad told settings trace status five cause calls e = inr (inr (inl (five, ap (λ (cs : List Call). Read settings true ∷ Read trace true ∷ cs) e, cause)))
+pub trace-bad : (told : Option Contents) (settings trace : List ℕ) (status offset : ℕ) → IfSome told (λ files. CantRun files settings trace offset)
+    → (calls : List Call) → IsBadSay (codes "monocle: trace") offset status calls → IsTraceEnd told settings trace status (Read settings true ∷ Read trace true ∷ calls)
+trace-bad told settings trace status offset cause calls (inl said) = inr (inr (inl (offset, (said.0, ap (λ (cs : List Call). Read settings true ∷ Read trace true ∷ cs) said.1, cause))))
+trace-bad told settings trace status offset cause calls (inr want) = inr (inr (inr (want.0, want.1)))
+
+pub bad-said : (what text : List ℕ) (offset status : ℕ) → status ≡ 5 → text ≡ bad_at what offset → (calls : List Call) → IsSay text calls → IsBadSay what offset status calls
+bad-said what text offset status five is calls e = inl (five, e ∙ ap (λ (t : List ℕ). Say t ∷ []) is)
+
+pub bad-want : (what : List ℕ) (offset status : ℕ) → status ≡ 7 → (calls : List Call) → IsWant 7 calls → IsBadSay what offset status calls
+bad-want what offset status seven calls want = inr (seven, want.1)
+
+pub replay-bad : (told : Option Contents) (settings trace : List ℕ) (x : Traced) (status offset : ℕ) → IfSome told (λ files. IsTraceFile files settings trace x) → IsUnfollowed x offset
+    → (calls : List Call) → IsBadSay (codes "monocle: trace") offset status calls → IsEndOf told (command.Replay settings trace) status (Read settings true ∷ Read trace true ∷ calls)
+replay-bad told settings trace x status offset found bad calls said = inl (trace-bad told settings trace status offset (cant-run told settings trace x offset found bad) calls said)
 
 -- a table's file
 pub table-unread : (told : Option Contents) (name : List ℕ) (status : ℕ) (calls : List Call) → IsReadEnd [] name status calls → IsSourceEnd told (File name) status calls
@@ -158,9 +174,9 @@ certificates-end-at told now source name status same gives calls end =
     certificates-end told source name status gives calls (subst (λ files. IsFileEnd files name status calls) same end)
 
 pub no-trace-at : (told now : Option Contents) (settings trace before content read : List ℕ) → now ≡ told → IfSome told (λ files. files settings ≡ Some before)
-    → IfSome now (λ files. files trace ≡ Some content) → read ≡ content → trace_of read ≡ None → IfSome told (λ files. IsNoTrace files settings trace)
-no-trace-at told now settings trace before content read same first next is none =
-    no-trace told settings trace before content read first (subst (λ files. IfSome files (λ f. f trace ≡ Some content)) same next) is none
+    → IfSome now (λ files. files trace ≡ Some content) → (offset : ℕ) → read ≡ content → trace_of read ≡ Err offset → IfSome told (λ files. CantRun files settings trace offset)
+no-trace-at told now settings trace before content read same first next offset is none =
+    no-trace told settings trace before content read first (subst (λ files. IfSome files (λ f. f trace ≡ Some content)) same next) offset is none
 
 -- the words that spell a check
 pub check-end : (told : Option Contents) (words : List (List ℕ)) (spelled : Command) (source : Source) (name given : List ℕ) (status : ℕ) → Spells spelled words

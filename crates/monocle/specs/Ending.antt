@@ -8,7 +8,7 @@ use Rattle.mon_words.specs.Words.{Spells}
 use Rattle.mon_world.specs.declared.calls.Call.{Call}
 use Rattle.mon_world.specs.declared.calls.Call.TheVariants.{Read, Write, Say}
 use Rattle.monocle.specs.Calls.{said_by}
-use Rattle.monocle.specs.Replay.{IsNoTrace}
+use Rattle.monocle.specs.Replay.{CantRun}
 use Rattle.monocle.specs.Planning.{Contents, GivesNone, GivesSome, HasNoSpelling}
 
 -- a file of this name can't be read
@@ -64,12 +64,16 @@ IsSourceEnd told (File name) status calls =
     ⊎ IsWant status calls)
 IsSourceEnd told (Generate n seed) status calls = IsWant status calls
 
--- where there is no trace: settings are read before the trace
+-- it is said that a file is bad from this byte on
+abbrev pub IsBadSay : List ℕ → ℕ → ℕ → List Call → Type 0
+IsBadSay what offset status calls = ((status ≡ 5) × IsSay (bad_at what offset) calls) ⊎ IsWant status calls
+
+-- where there is no trace that can be run: settings are read before the trace
 abbrev pub IsTraceEnd : Option Contents → List ℕ → List ℕ → ℕ → List Call → Type 0
 IsTraceEnd told settings trace status calls =
     IsUnread [] settings status calls
     ⊎ (IsUnread (Read settings true ∷ []) trace status calls
-    ⊎ (IsBad (Read settings true ∷ Read trace true ∷ []) (codes "monocle: trace\n") told (λ files. IsNoTrace files settings trace) status calls
+    ⊎ (((offset : ℕ) × IsBad (Read settings true ∷ Read trace true ∷ []) (bad_at (codes "monocle: trace") offset) told (λ files. CantRun files settings trace offset) status calls)
     ⊎ IsWant status calls))
 
 -- where the file of this name gives no certificates

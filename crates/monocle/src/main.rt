@@ -1,7 +1,7 @@
 //! `monocle`, a monitor of data-plane rules: the program.
 //!
-//! `replay SETTINGS TRACE` runs the session of a trace and writes what was put, and then the entries that the controller
-//! should have on the switch. `plan TABLE` says for each rule of a table which packet shows it, or that none does, and
+//! `replay SETTINGS TRACE` runs the sessions of a trace and writes what was put, and then the entries that the controller
+//! should have on each switch. `plan TABLE` says for each rule of a table which packet shows it, or that none does, and
 //! `check TABLE CERTIFICATES` checks such a plan. `main` makes the desk over files and the standard streams, and calls
 //! `monocle`, whose contract is what is promised of a run.
 #![tactic(auto)]

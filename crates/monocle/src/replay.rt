@@ -1,6 +1,6 @@
 //! `replay`: the run of a trace.
 
-ghost use Rattle.std.specs.Prelude.{◌≡◌, ◌≢◌, ◌≤◌, [], ◌∷◌, List, Err, Some, None, IfSome, IfOk, OnOk, IsErrOf, true};
+ghost use Rattle.std.specs.Prelude.{◌≡◌, ◌≢◌, ◌≤◌, ◌⊎◌, ℕ, [], ◌∷◌, List, Ok, Err, IfSome, IfOk, OnOk, IsErrOf, true, codes};
 ghost use Rattle.std.specs.Result.{IfErr};
 ghost use Rattle.mon_world.specs.Causes.{Rose};
 ghost use Rattle.mon_world.specs.declared.calls.Call.TheVariants.{Read};
@@ -8,47 +8,74 @@ ghost use Rattle.mon_world.specs.declared.history.Entry.{Entry};
 ghost use Rattle.mon_trace.specs.Grammar.{trace_of};
 ghost use Rattle.mon_words.specs.declared.command.Command.{Command};
 ghost use Rattle.monocle.specs.Calls.{Quiet, Called};
-ghost use Rattle.monocle.specs.Ending.{IsTraceEnd, IsEndOf};
-ghost use Rattle.monocle.specs.Replay.{IsRunOf, IsFile, IsTraceFile, answer_of};
+ghost use Rattle.monocle.specs.Ending.{IsBadSay, IsTraceEnd, IsEndOf};
+ghost use Rattle.monocle.specs.Replay.{IsRunOf, IsTraceFile, IsUnfollowed, answer_of};
 ghost use Rattle.monocle.specs.Running.{Replays};
 
-use crate::saying::{content_of, out_of_memory, put, refused};
+use crate::saying::{bad_text, content_of, out_of_memory, put, refused};
 use crate::tables::push_tables;
 use mon_core::{Core, LoopEnd, legal_passes_frames, run_loop};
 use mon_trace::{Trace, TraceFault, TraceHub, read_trace};
 use mon_world::Desk;
 use std::alloc::Global;
 
-/// The text of the history of a trace and the tables at its end, or None for want of memory.
-fn answer(alloc: Global, trace: Trace) -> Option<Vec<u8>>
-    ensures { IfSome result (λ bytes. (h : List Entry) × IsRunOf trace.events h × (bytes.items ≡ answer_of h)) }
+/// The text of the history of a trace and the tables at its end, or where it has a record that can't be followed.
+fn answer(alloc: Global, trace: Trace) -> Result<Vec<u8>, TraceFault>
+    ensures run { IfOk result (λ bytes. (h : List Entry) × IsRunOf trace h × (bytes.items ≡ answer_of trace h)) }
+    ensures bad { (offset : ℕ) → result ≡ Err (TraceFault.Bad offset) → IsUnfollowed trace offset }
 {
+    if let Some(offset) = trace.first_other() {
+        return Err(TraceFault::Bad { offset });
+    }
     let turns = trace.records() + 1;
     let mut core = Core::new(alloc);
-    let mut hub = TraceHub::new(alloc, trace).ok()?;
+    let mut hub = match TraceHub::new(alloc, trace) {
+        Ok(hub) => hub,
+        Err(_) => return Err(TraceFault::OutOfMemory),
+    };
     legal_passes_frames();
     let end = run_loop(alloc, &mut core, &mut hub, turns);
+    let bad = hub.bad();
     let mut bytes = hub.text();
     match end {
-        LoopEnd::Stopped => {
-            push_tables(alloc, &core, &mut bytes).ok()?;
-            Some(bytes)
-        }
-        LoopEnd::OutOfMemory => None,
-        LoopEnd::TurnsUsed | LoopEnd::HubFailed => unreachable!(),
+        LoopEnd::Stopped => match push_tables(alloc, &core, &mut bytes) {
+            Ok(()) => Ok(bytes),
+            Err(_) => Err(TraceFault::OutOfMemory),
+        },
+        LoopEnd::HubFailed => match bad {
+            Some(offset) => Err(TraceFault::Bad { offset }),
+            None => unreachable!(),
+        },
+        LoopEnd::OutOfMemory => Err(TraceFault::OutOfMemory),
+        LoopEnd::TurnsUsed => unreachable!(),
+    }
+}
+
+/// Says from which byte on a trace is bad, and gives the status: 5, or 7 for want of memory.
+fn bad_trace<D: Desk>(alloc: Global, offset: u64, desk: &mut D) -> u8
+    ensures status { (result ≡ 5) ⊎ (result ≡ 7) }
+    ensures called { Called (IsBadSay (codes "monocle: trace") offset result) (D.said desk.old) (D.said desk.new) (D.calls desk.old) (D.calls desk.new) }
+    ensures files { D.files desk.new ≡ D.files desk.old }
+    ensures written { D.written desk.new ≡ D.written desk.old }
+    ensures reads { D.read_faults desk.new ≡ D.read_faults desk.old }
+    ensures writes { D.write_faults desk.new ≡ D.write_faults desk.old }
+{
+    match bad_text(alloc, "monocle: trace", offset) {
+        Ok(said) => refused(alloc, desk, 5, said.as_bytes()),
+        Err(_) => out_of_memory(alloc, desk),
     }
 }
 
 /// The trace of a text.
 fn trace_in(alloc: Global, text: &[u8]) -> Result<Trace, TraceFault>
-    ensures found { IfOk result (λ trace. trace_of text.now ≡ Some trace) }
-    ensures bad { result ≡ Err TraceFault.Bad → trace_of text.now ≡ None }
+    ensures found { IfOk result (λ trace. trace_of text.now ≡ Ok trace) }
+    ensures bad { (offset : ℕ) → result ≡ Err (TraceFault.Bad offset) → trace_of text.now ≡ Err offset }
 {
     read_trace(alloc, text)
 }
 
 /// Reads the settings and then the trace. Where there is no trace, says why, and gives the status: 3 where a file can't be
-/// read, 5 where the trace isn't one, 7 for want of memory.
+/// read, 5 where the trace isn't one and from which byte on, 7 for want of memory.
 fn traced<D: Desk>(alloc: Global, settings: &str, trace: &str, desk: &mut D) -> Result<Trace, u8>
     ensures found { IfOk result (λ x. IfSome (D.files desk.old) (λ files. IsTraceFile files settings.now trace.now x)) }
     ensures quiet { OnOk result (Quiet (Read settings.now true ∷ Read trace.now true ∷ []) (D.said desk.old) (D.said desk.new) (D.calls desk.old) (D.calls desk.new)) }
@@ -66,14 +93,14 @@ fn traced<D: Desk>(alloc: Global, settings: &str, trace: &str, desk: &mut D) -> 
     };
     match trace_in(alloc, &text) {
         Ok(traced) => Ok(traced),
-        Err(TraceFault::Bad) => Err(refused(alloc, desk, 5, b"monocle: trace\n")),
+        Err(TraceFault::Bad { offset }) => Err(bad_trace(alloc, offset, desk)),
         Err(TraceFault::OutOfMemory) => Err(out_of_memory(alloc, desk)),
     }
 }
 
-/// Reads the settings and then the trace, runs its session, and writes the text of the history and the tables at its
-/// end. It answers 0, 3 where a file can't be read, 5 where the trace isn't one, 6 where writing fails, and 7 for want of
-/// memory.
+/// Reads the settings and then the trace, runs its sessions, and writes the text of the history and the tables at its
+/// end. It answers 0, 3 where a file can't be read, 5 where the trace isn't one or has a record that can't be followed,
+/// 6 where writing fails, and 7 for want of memory.
 pub fn replay<D: Desk>(alloc: Global, settings: &str, trace: &str, desk: &mut D) -> u8
     // What is written at status 0 is the text of a legal history of the trace's events, and behind it the expected
     // entries of each session that has not ended.
@@ -91,7 +118,8 @@ pub fn replay<D: Desk>(alloc: Global, settings: &str, trace: &str, desk: &mut D)
         Err(status) => return status,
     };
     match answer(alloc, traced) {
-        Some(bytes) => put(alloc, &bytes, 0, desk),
-        None => out_of_memory(alloc, desk),
+        Ok(bytes) => put(alloc, &bytes, 0, desk),
+        Err(TraceFault::Bad { offset }) => bad_trace(alloc, offset, desk),
+        Err(TraceFault::OutOfMemory) => out_of_memory(alloc, desk),
     }
 }

@@ -25,8 +25,8 @@ const RECORDS: &str = "open\nfrom controller 0 0100000800000001\n";
 const LINE: &str = "2 put 0 switch 0100000800000001\n";
 
 /// Records and what is written of them: a faulty frame ends the session, and what comes later is ignored; then both
-/// directions, a frame in two pieces, and frames before a fault in one piece.
-const REPLAYS: [(&str, &str); 4] = [
+/// directions, a frame in two pieces, and frames before a fault in one piece; two sessions, of which one ends.
+const REPLAYS: [(&str, &str); 5] = [
     ("", ""),
     (RECORDS, LINE),
     (
@@ -36,6 +36,10 @@ const REPLAYS: [(&str, &str); 4] = [
     (
         "open\nfrom switch 0 01000008000000\nfrom controller 0 0100000800000001\nfrom switch 0 02\nfrom switch 0 0102000800000003020200080000000401020008\n",
         "3 put 0 switch 0100000800000001\n4 put 0 controller 0100000800000002\n5 put 0 controller 0102000800000003\n5 end 0\n",
+    ),
+    (
+        "open\nopen\nfrom controller 1 0100000800000001\nfrom switch 0 0100000700000001\nfrom controller 0 0100000800000002\nfrom controller 1 0100000800000003\n",
+        "3 put 1 switch 0100000800000001\n4 end 0\n6 put 1 switch 0100000800000003\n",
     ),
 ];
 
@@ -137,10 +141,11 @@ fn is_refused(alloc: Global, text: &str, name: &str, status: u8, said: &str) -> 
 #[test]
 fn what_is_no_trace_is_refused(rt: HostRuntime) -> Result<(), Fail> {
     let alloc = rt.alloc();
-    let said = "monocle: trace\n";
-    assert!(rt; is_refused(alloc, "", "one.trace", 5, said)?);
-    let text = "monocle-trace 1 0000000000000001\nclose 0\n";
-    assert!(rt; is_refused(alloc, text, "one.trace", 5, said)?);
+    assert!(rt; is_refused(alloc, "", "one.trace", 5, "monocle: trace: offset 0\n")?);
+    let text = "monocle-trace 1 0000000000000001\nanswer 0\n";
+    assert!(rt; is_refused(alloc, text, "one.trace", 5, "monocle: trace: offset 33\n")?);
+    let text = "monocle-trace 1 0000000000000001\nopen\nlose\nfrom controller 0 00\n";
+    assert!(rt; is_refused(alloc, text, "one.trace", 5, "monocle: trace: offset 43\n")?);
     let missing = "monocle: cannot read one.trace\n";
     assert!(rt; is_refused(alloc, text, "two.trace", 3, missing)?);
     Ok(())

@@ -13,11 +13,11 @@ pub returns-in-Err-Bad-clause-ended : goal.returns-in-Err-Bad-clause-ended
 returns-in-Err-Bad-clause-ended g c =
     called-behind
     (quiet-behind (Read c.args.settings.now true ∷ []) (Read c.args.trace.now true ∷ []) _ _ _ _ _ _ c.in_ok-content_of.ensures.quiet c.in-Ok.ensures.quiet)
-    c.refused.ensures.called (λ calls. refl)
-    (trace-bad (g.D.Desk.files c.args.desk.now) c.args.settings.now c.args.trace.now c.refused.result c.refused.ensures.status
+    c.bad_trace.ensures.called (λ calls. refl)
+    (trace-bad (g.D.Desk.files c.args.desk.now) c.args.settings.now c.args.trace.now c.bad_trace.result c.in-Err-Bad.offset
     (no-trace-at (g.D.Desk.files c.args.desk.now) (g.D.Desk.files c.content_of.new.desk) c.args.settings.now c.args.trace.now _ _ _
-    c.in_ok-content_of.ensures.files c.in_ok-content_of.ensures.content c.in-Ok.ensures.content c.deref.ensures.value
-    (c.trace_in.ensures.bad (c.in-Err-Bad.is ∙ ap Err c.in-Err-Bad.field-0-is))))
+    c.in_ok-content_of.ensures.files c.in_ok-content_of.ensures.content c.in-Ok.ensures.content c.in-Err-Bad.offset c.deref.ensures.value
+    (c.trace_in.ensures.bad c.in-Err-Bad.offset (c.in-Err-Bad.is ∙ ap Err c.in-Err-Bad.field-0-is))))
 
 pub returns-clause-ended : goal.returns-clause-ended
 returns-clause-ended g c =

@@ -1,10 +1,10 @@
-use Rattle.std.proofs.Common.{sym, ◌∙◌}
+use Rattle.std.proofs.Common.{sym, ◌∙◌, arith}
 use Rattle.mon_core.proofs.Turns.{opened-is, stood, carried-so_far, carried-put}
 use Rattle.mon_core.proofs.sessions.Core.turn.Goals as goal
 
 pub returns-clause-opened : goal.returns-clause-opened
 returns-clause-opened g c =
-    opened-is c.args.event c.args.self.now c.on_event.new.self c.in_ok-outs.outs.items c.in_ok-outs.ensures ∙ sym c.requires.opened ∙ sym c.carry_out.ensures.opened
+    opened-is c.args.event c.args.self.now c.on_event.new.self c.in_ok-outs.outs.items (omega (arith, c.len.ensures.value, c.len.ensures.small)) c.in_ok-outs.ensures ∙ sym c.requires.opened ∙ sym c.carry_out.ensures.opened
 
 pub returns-clause-stands : goal.returns-clause-stands
 returns-clause-stands g c =

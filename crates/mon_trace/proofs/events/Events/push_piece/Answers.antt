@@ -1,8 +1,7 @@
 use Rattle.std.proofs.Common.{◌≡◌, ◌∙◌, ◌+◌, ◌-◌, ◌++◌, ◌∷◌, [], List, Some, length, ap, sym, subst, rules, arith}
-use Rattle.mon_world.specs.declared.event.Event.{Event}
 use Rattle.mon_trace.specs.declared.events.Place.{Place}
-use Rattle.mon_trace.specs.declared.events.Place.TheVariants.{Bytes}
-use Rattle.mon_trace.specs.Grammar.{piece_of}
+use Rattle.mon_trace.specs.declared.events.Deed.TheVariants.{Bytes}
+use Rattle.mon_trace.specs.Grammar.{Recorded, piece_of}
 use Rattle.mon_trace.specs.Reading.{onto, one}
 use Rattle.mon_text.specs.Hex.{unhex}
 use Rattle.mon_trace.specs.Places.{events_at, AllWithin}
@@ -33,9 +32,9 @@ invariant_of-self-2 c =
     let size = c.len.result - c.len-start.result in
     let start : c.len-start.result ≡ length old = search rules in
     let end : c.len.result ≡ length new = search rules in
-    let grown : c.push.new.self.items ≡ inside.places.items ++ Bytes c.args.side size c.len-start.result ∷ [] = search rules in
+    let grown : c.push.new.self.items ≡ inside.places.items ++ record { offset = c.args.offset; losing = c.args.losing; deed = Bytes c.args.side size c.len-start.result c.args.session } ∷ [] = search rules in
     subst (AllWithin (length new)) (sym grown)
-    (all_within-append (length new) inside.places.items (Bytes c.args.side size c.len-start.result ∷ []) (all_within-more (length old) (length new) inside.places.items c.self.invariant c.push_bytes.ensures.longer) ((omega (arith, c.if-size-eq0.false), omega (arith, c.if-size-gt-LARGEST_PIECE.false), omega (arith, start, end, c.push_bytes.ensures.longer)), tt))
+    (all_within-append (length new) inside.places.items (record { offset = c.args.offset; losing = c.args.losing; deed = Bytes c.args.side size c.len-start.result c.args.session } ∷ []) (all_within-more (length old) (length new) inside.places.items c.self.invariant c.push_bytes.ensures.longer) ((omega (arith, c.if-size-eq0.false), omega (arith, c.if-size-gt-LARGEST_PIECE.false), omega (arith, start, end, c.push_bytes.ensures.longer)), tt))
 
 pub returns : goal.returns
 returns c =
@@ -45,9 +44,9 @@ returns c =
     let size = c.len.result - c.len-start.result in
     let start : c.len-start.result ≡ length old = search rules in
     let end : c.len.result ≡ length new = search rules in
-    let grown : c.push.new.self.items ≡ inside.places.items ++ Bytes c.args.side size (length old) ∷ [] = search rules in
+    let grown : c.push.new.self.items ≡ inside.places.items ++ record { offset = c.args.offset; losing = c.args.losing; deed = Bytes c.args.side size (length old) c.args.session } ∷ [] = search rules in
     let total : length old + size ≡ length new = omega (arith, start, end, c.push_bytes.ensures.longer) in
     let read = unhex c.args.digits.now in
-    ap (λ (events : List Event). onto events (one (piece_of c.args.side read))) (sym c.self.view_is)
-    ∙ pushed_piece c.args.side read old new inside.places.items size c.in_ok-push_bytes.ensures.value c.self.invariant total (omega (arith, c.if-size-eq0.false)) (omega (arith, c.if-size-gt-LARGEST_PIECE.false))
+    ap (λ (events : List Recorded). onto events (one c.args.offset c.args.losing (piece_of c.args.side c.args.session read))) (sym c.self.view_is)
+    ∙ pushed_piece c.args.offset c.args.losing c.args.session c.args.side read old new inside.places.items size c.in_ok-push_bytes.ensures.value c.self.invariant total (omega (arith, c.if-size-eq0.false)) (omega (arith, c.if-size-gt-LARGEST_PIECE.false))
     ∙ ap (λ (places : List Place). Some (events_at new places)) (sym grown)
