@@ -178,9 +178,19 @@ fn a_plan_is_accepted(rt: HostRuntime) -> Result<(), Fail> {
 const UNSURE: &str =
     "rule 50 003820ef000000000000000000000000000000000000080000000000000000000000000000000000 0000000800020000 unsure\n";
 
-/// An unsure rule where there are none; a line without its end; two rules of one identity; a tag that isn't listed; ports
-/// out of order; no certificates; and a table that is judged before the certificates are read.
-const OUT_OF_FORM: [Row; 8] = [
+/// Certificates that break off; an unsure rule where there are none; a line without its end; two rules of one identity; a
+/// tag that isn't listed; ports out of order; no certificates; and a table that is judged before the certificates are
+/// read.
+const OUT_OF_FORM: [Row; 9] = [
+    (
+        CHECK,
+        &[SWITCH, FROM_8, TO_8],
+        "monocle-certificates 1\nrules 2\noverlap 0\n",
+        Failing::Nothing,
+        5,
+        "",
+        "monocle: certificates: offset 41\n",
+    ),
     (
         PLAN,
         &[SWITCH, TO_24, UNSURE],
@@ -258,7 +268,16 @@ const OUT_OF_FORM: [Row; 8] = [
 const UNWRITTEN: &str = "monocle: cannot write\n";
 
 /// Two tied rules, of which a read or a write fails. A second write would fail.
-const FAULTS: [Row; 6] = [
+const FAULTS: [Row; 7] = [
+    (
+        PLAN,
+        &[SWITCH, FROM_8, TO_8],
+        TIES,
+        Failing::Read(0),
+        3,
+        "",
+        "monocle: cannot read one.table\n",
+    ),
     (
         CHECK,
         &[SWITCH, FROM_8, TO_8],
