@@ -125,8 +125,8 @@ pushed_piece offset losing session side (Some bytes) old new places size is all 
     ap (λ (b : Bool). onto (events_at old places) (one offset losing (cond (b && nat_le (length bytes) 4096) (Some (Piece session side bytes)) None))) low
     ∙ ap (λ (b : Bool). onto (events_at old places) (one offset losing (cond b (Some (Piece session side bytes)) None))) high
     ∙ ap Some (ap (λ (es : List Recorded). es ++ record { offset = offset; losing = losing; event = Piece session side bytes } ∷ []) (sym kept)
-      ∙ ap (λ (e : Event). events_at new places ++ record { offset = offset; losing = losing; event = e } ∷ []) (sym last)
-      ∙ sym (events_at-append new places (place ∷ [])))
+    ∙ ap (λ (e : Event). events_at new places ++ record { offset = offset; losing = losing; event = e } ∷ []) (sym last)
+    ∙ sym (events_at-append new places (place ∷ [])))
 
 pub read_size : (bytes : List ℕ) (start size : ℕ) → start + size ≤ length bytes → length (take size (drop start bytes)) ≡ size
 read_size bytes start size within = length-take-le size (drop start bytes) (omega (arith, within, length-drop start bytes))

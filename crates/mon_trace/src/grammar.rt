@@ -92,11 +92,7 @@ impl Trace {
 }
 
 /// Reads the records of a text that begins at this offset.
-fn read_records(
-    alloc: Global,
-    text: &[u8],
-    offset: usize,
-) -> Result<(Events, u64), FileFault>
+fn read_records(alloc: Global, text: &[u8], offset: usize) -> Result<(Events, u64), FileFault>
     requires { offset + length text.now < 2 ^ 63 }
     ensures { Gives (λ x. x) result (records_of offset 0 0 text.now) }
 {

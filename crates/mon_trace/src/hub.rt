@@ -248,7 +248,8 @@ impl TraceHub {
         ensures same { OnErr result (self.new ≡ self.old) }
     {
         let jobs = jobs_after(note, self.jobs)?;
-        self.outputs.push_note(alloc, self.given, self.number, note)?;
+        self.outputs
+            .push_note(alloc, self.given, self.number, note)?;
         self.jobs = jobs;
         Ok(())
     }

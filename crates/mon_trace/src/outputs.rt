@@ -149,7 +149,13 @@ impl Outputs {
     }
 
     /// Adds an output that came after so many inputs, or changes nothing for want of memory.
-    pub(crate) fn push(&mut self, after: u64, number: u64, lost: bool, out: &Out) -> Result<(), OutOfMemory>
+    pub(crate) fn push(
+        &mut self,
+        after: u64,
+        number: u64,
+        lost: bool,
+        out: &Out,
+    ) -> Result<(), OutOfMemory>
         ensures pushed { OnOk result (self.new ≡ record { after = after; number = number; entry = entry_of lost out.now } ∷ self.old) }
         ensures same { OnErr result (self.new ≡ self.old) }
     {
@@ -163,7 +169,13 @@ impl Outputs {
     }
 
     /// Adds a note that came after so many inputs, or changes nothing for want of memory.
-    pub(crate) fn push_note(&mut self, alloc: Global, after: u64, number: u64, note: &Note) -> Result<(), OutOfMemory>
+    pub(crate) fn push_note(
+        &mut self,
+        alloc: Global,
+        after: u64,
+        number: u64,
+        note: &Note,
+    ) -> Result<(), OutOfMemory>
         ensures pushed { OnOk result (self.new ≡ record { after = after; number = number; entry = Noted note.now } ∷ self.old) }
         ensures same { OnErr result (self.new ≡ self.old) }
     {

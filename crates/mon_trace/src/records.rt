@@ -91,12 +91,7 @@ fn read_answer(line: &[u8], mark: Mark, events: &mut Events) -> Result<(), TextF
 }
 
 #[tactic(auto, unfolding(crate::specs::Grammar::closing_event))]
-fn read_closing(
-    opened: u64,
-    line: &[u8],
-    mark: Mark,
-    events: &mut Events,
-) -> Result<(), TextFault>
+fn read_closing(opened: u64, line: &[u8], mark: Mark, events: &mut Events) -> Result<(), TextFault>
     ensures { Reads (λ _. events.new) result (onto events.old (one mark.offset mark.losing (closing_event opened line.now))) }
 {
     let Some(rest) = behind(b"close ", line) else {
@@ -110,12 +105,7 @@ fn read_closing(
 }
 
 #[tactic(auto, unfolding(crate::specs::Grammar::switch_event))]
-fn read_switch(
-    opened: u64,
-    line: &[u8],
-    mark: Mark,
-    events: &mut Events,
-) -> Result<(), TextFault>
+fn read_switch(opened: u64, line: &[u8], mark: Mark, events: &mut Events) -> Result<(), TextFault>
     ensures { Reads (λ _. events.new) result (onto events.old (one mark.offset mark.losing (switch_event opened line.now))) }
 {
     match behind(b"from switch ", line) {
@@ -126,12 +116,7 @@ fn read_switch(
 
 /// Reads a record other than `open` and `lose`. The session that it names must be one of those that were opened.
 #[tactic(auto, unfolding(crate::specs::Grammar::later_event))]
-fn read_later(
-    opened: u64,
-    line: &[u8],
-    mark: Mark,
-    events: &mut Events,
-) -> Result<(), TextFault>
+fn read_later(opened: u64, line: &[u8], mark: Mark, events: &mut Events) -> Result<(), TextFault>
     ensures { Reads (λ _. events.new) result (onto events.old (one mark.offset mark.losing (later_event opened line.now))) }
 {
     match behind(b"from controller ", line) {

@@ -58,7 +58,10 @@ fn says_where_a_text_is_no_trace(rt: HostRuntime) -> Result<(), Fail> {
         b"monocle-trace 2 00000000000000ff\n",
     ];
     for text in texts {
-        assert_eq!(rt; read_trace(alloc, text).err(), Some(TraceFault::Bad { offset: 0 }));
+        assert_eq!(rt;
+            read_trace(alloc, text).err(),
+            Some(TraceFault::Bad { offset: 0 })
+        );
     }
     let first: [&[u8]; 7] = [
         b"open",
@@ -70,7 +73,10 @@ fn says_where_a_text_is_no_trace(rt: HostRuntime) -> Result<(), Fail> {
         b"loses\n",
     ];
     for text in first {
-        assert_eq!(rt; with_records(alloc, text).err(), Some(TraceFault::Bad { offset: 33 }));
+        assert_eq!(rt;
+            with_records(alloc, text).err(),
+            Some(TraceFault::Bad { offset: 33 })
+        );
     }
     let second: [&[u8]; 8] = [
         b"open\nfrom controller 0 0\n",
@@ -83,9 +89,15 @@ fn says_where_a_text_is_no_trace(rt: HostRuntime) -> Result<(), Fail> {
         b"open\nclose 0",
     ];
     for text in second {
-        assert_eq!(rt; with_records(alloc, text).err(), Some(TraceFault::Bad { offset: 38 }));
+        assert_eq!(rt;
+            with_records(alloc, text).err(),
+            Some(TraceFault::Bad { offset: 38 })
+        );
     }
-    assert_eq!(rt; with_piece(alloc, 4097).err(), Some(TraceFault::Bad { offset: 38 }));
+    assert_eq!(rt;
+        with_piece(alloc, 4097).err(),
+        Some(TraceFault::Bad { offset: 38 })
+    );
     Ok(())
 }
 
