@@ -187,3 +187,19 @@ check-end told words spelled source name given status spells is same calls end =
       subst (λ c. Spells c words) (is ∙ ap (λ (n : List ℕ). command.Check source n) (sym same)) spells,
       end,
     ))
+
+-- the words that spell a plan
+pub plan-end : (told : Option Contents) (words : List (List ℕ)) (spelled : Command) (source : Source) (workers : ℕ) (certificates : Bool) (status : ℕ) → Spells spelled words
+    → spelled ≡ command.Plan source workers certificates → (calls : List Call) → IsEndOf told (command.Plan source workers certificates) status calls → IsEndFor told words status calls
+plan-end told words spelled source workers certificates status spells is calls end =
+    inr (inr (command.Plan source workers certificates, subst (λ c. Spells c words) is spells, end))
+
+-- the words that spell a replay
+pub replay-end : (told : Option Contents) (words : List (List ℕ)) (spelled : Command) (settings trace first second : List ℕ) (status : ℕ) → Spells spelled words
+    → spelled ≡ command.Replay settings trace → first ≡ settings → second ≡ trace → (calls : List Call) → IsEndOf told (command.Replay first second) status calls → IsEndFor told words status calls
+replay-end told words spelled settings trace first second status spells is one two calls end =
+    inr (inr (
+      command.Replay first second,
+      subst (λ c. Spells c words) (is ∙ (ap (λ (n : List ℕ). command.Replay n trace) (sym one) ∙ ap (λ (n : List ℕ). command.Replay first n) (sym two))) spells,
+      end,
+    ))
