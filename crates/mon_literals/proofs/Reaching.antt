@@ -154,3 +154,6 @@ unfolding SomeWithin
 differ_within a b d e =
     let all : widths (laid a) ≡ 264 = laid_widths a in
     subst SomeWithin e (fields_within 0 (laid a) (laid b) (omega arith))
+
+-- the law
+pub ruleset reaching = (pattern_within, class_within, differ_within)

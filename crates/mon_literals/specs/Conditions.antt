@@ -3,6 +3,7 @@ use Rattle.std.specs.Prelude.{ℕ, ◌+◌, Bool, nat_le, List, [], ◌∷◌, �
 use Rattle.mon_cnf.specs.declared.clause.Lit.{Lit}
 use Rattle.mon_header.specs.declared.class.Class.{Class}
 use Rattle.mon_header.specs.declared.class.Class.TheVariants.{Tcp, Udp, Icmp, OtherIpv4, Plain, Arp}
+use Rattle.mon_header.specs.Assigned.{IPV4_TYPE, ARP_TYPE, TAG_TYPE, SERVICE_TAG_TYPE, PAUSE_TYPE, SLOW_TYPE, ICMP_PROTOCOL, TCP_PROTOCOL, UDP_PROTOCOL}
 use Rattle.mon_header.specs.Places.{header_size}
 use Rattle.mon_shows.specs.Views.{Viewing}
 use Rattle.mon_literals.specs.declared.condition.Condition.{Condition}
@@ -20,8 +21,8 @@ is_in_header (IsNot r) = nat_le (r.start + r.count) header_size
 abbrev pub plain_type : List Condition
 plain_type =
     IsNot (run 136 7 0) ∷ IsNot (run 136 7 1) ∷ IsNot (run 136 7 2)
-    ∷ IsNot (run 136 16 0x0800) ∷ IsNot (run 136 16 0x0806) ∷ IsNot (run 136 16 0x8100)
-    ∷ IsNot (run 136 16 0x88a8) ∷ IsNot (run 136 16 0x8808) ∷ IsNot (run 136 16 0x8809)
+    ∷ IsNot (run 136 16 IPV4_TYPE) ∷ IsNot (run 136 16 ARP_TYPE) ∷ IsNot (run 136 16 TAG_TYPE)
+    ∷ IsNot (run 136 16 SERVICE_TAG_TYPE) ∷ IsNot (run 136 16 PAUSE_TYPE) ∷ IsNot (run 136 16 SLOW_TYPE)
     ∷ []
 
 -- neither protocol, addresses nor ports
@@ -32,14 +33,14 @@ no_network_fields =
 -- what the class asks: the type of IPv4 and the protocol; of ICMP also a type and a code below 256; or none of these
 -- protocols, and no ports; or a plain type, and nothing else; or the type of ARP, and neither a type of service nor ports
 abbrev pub form_of : Class → List Condition
-form_of Tcp = Is (run 136 16 0x0800) ∷ Is (run 160 8 6) ∷ []
-form_of Udp = Is (run 136 16 0x0800) ∷ Is (run 160 8 17) ∷ []
-form_of Icmp = Is (run 136 16 0x0800) ∷ Is (run 160 8 1) ∷ Is (run 232 8 0) ∷ Is (run 248 8 0) ∷ []
+form_of Tcp = Is (run 136 16 IPV4_TYPE) ∷ Is (run 160 8 TCP_PROTOCOL) ∷ []
+form_of Udp = Is (run 136 16 IPV4_TYPE) ∷ Is (run 160 8 UDP_PROTOCOL) ∷ []
+form_of Icmp = Is (run 136 16 IPV4_TYPE) ∷ Is (run 160 8 ICMP_PROTOCOL) ∷ Is (run 232 8 0) ∷ Is (run 248 8 0) ∷ []
 form_of OtherIpv4 =
-    Is (run 136 16 0x0800) ∷ IsNot (run 160 8 1) ∷ IsNot (run 160 8 6) ∷ IsNot (run 160 8 17)
+    Is (run 136 16 IPV4_TYPE) ∷ IsNot (run 160 8 ICMP_PROTOCOL) ∷ IsNot (run 160 8 TCP_PROTOCOL) ∷ IsNot (run 160 8 UDP_PROTOCOL)
     ∷ Is (run 232 16 0) ∷ Is (run 248 16 0) ∷ []
 form_of Plain = plain_type ++ no_network_fields
-form_of Arp = Is (run 136 16 0x0806) ∷ Is (run 152 8 0) ∷ Is (run 232 16 0) ∷ Is (run 248 16 0) ∷ []
+form_of Arp = Is (run 136 16 ARP_TYPE) ∷ Is (run 152 8 0) ∷ Is (run 232 16 0) ∷ Is (run 248 16 0) ∷ []
 
 -- what is asked whatever the class: the port and the tag, a VLAN priority below 8, a source that is one station, a
 -- destination that is neither the mark of dropped packets nor one that bridges keep to themselves, whose upper 44 bits

@@ -16,19 +16,11 @@ pub enum Condition {
 pub(crate) fn is(start: u16, count: u16, number: u64) -> Condition
     ensures { result ≡ Is (run start count number) }
 {
-    Condition::Is(Run {
-        start,
-        count,
-        number,
-    })
+    Condition::Is(Run::new(start, count, number))
 }
 
 pub(crate) fn is_not(start: u16, count: u16, number: u64) -> Condition
     ensures { result ≡ IsNot (run start count number) }
 {
-    Condition::IsNot(Run {
-        start,
-        count,
-        number,
-    })
+    Condition::IsNot(Run::new(start, count, number))
 }

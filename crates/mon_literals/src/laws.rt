@@ -56,6 +56,7 @@ pub fn clauses_that_differ()
 {}
 
 /// The literals are of the variables of a header's bits.
+#[tactic(auto, using(crate::proofs::Reaching::reaching))]
 pub fn literals_are_of_bits()
     ensures pattern { (m : Matching) → Within header_size (pattern_of m) }
     ensures class { (view : Viewing) (c : Class) (in_port : ℕ) → WithinAll header_size (class_clauses view c in_port) }

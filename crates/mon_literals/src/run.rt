@@ -3,7 +3,7 @@
 ghost use Rattle.std.specs.Prelude.{◌≡◌, ◌++◌, OnOk, if◌then◌else◌};
 ghost use Rattle.mon_header.specs.Wild.{bit};
 ghost use Rattle.mon_literals.specs.Clauses.{denied};
-ghost use Rattle.mon_literals.specs.Runs.{spelled};
+ghost use Rattle.mon_literals.specs.Runs.{run, spelled};
 
 use mon_cnf::{Clause, Lit, OutOfMemory};
 
@@ -16,6 +16,19 @@ pub struct Run {
     pub start: u16,
     pub count: u16,
     pub number: u64,
+}
+
+impl Run {
+    /// The bits at this place and behind it, as many, and their number.
+    pub(crate) fn new(start: u16, count: u16, number: u64) -> Run
+        ensures { result ≡ run start count number }
+    {
+        Run {
+            start,
+            count,
+            number,
+        }
+    }
 }
 
 fn has_bit(n: u64, place: u16) -> bool
