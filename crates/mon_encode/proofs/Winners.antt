@@ -47,18 +47,23 @@ loses t h w r a b =
     or_right _ _ (not_from_false _ (false_from_ne_true _ (λ m. both_ways (wins t h r) b (and_from _ _ m (highest-more t h w r le (and_parts (matches w.matching h) _ a).1))))))
     (cases_lt (rank r) (rank w))
 
+-- a rule that loses at another place than the winner's isn't one of those that neither are low nor fail to match
+out-elsewhere : (p : Rule → Bool) (h : Header) (winner least place : ℕ) (r : Rule) → (p r ≡ true → (nat_lt (rank r) least ≡ false) × (matches r.matching h ≡ true))
+    → (place ≡ winner → ⊥) → (((place == winner) || nat_lt (rank r) least) || not (matches r.matching h)) ≡ true → p r ≡ false
+out-elsewhere p h winner least place r f ne lost =
+    let elsewhere : (place == winner) ≡ false = ne_eqb place winner ne in
+    false_from_ne_true (p r) (λ y.
+    let g = f y in
+    let n : (((place == winner) || nat_lt (rank r) least) || not (matches r.matching h)) ≡ false = rw (elsewhere, g.0, g.1) refl in
+    both_ways _ n lost)
+
 -- where all other rules lose, the one at the winner's place is the only winner
 none-behind : (p : Rule → Bool) (h : Header) (winner least place : ℕ) (t : List Rule) → ((r : Rule) → p r ≡ true → (nat_lt (rank r) least ≡ false) × (matches r.matching h ≡ true))
     → winner < place → all_lose h winner least place t ≡ true → filter p t ≡ []
 none-behind p h winner least place [] f lt a = refl
 none-behind p h winner least place (r ∷ t) f lt a =
     let q = and_parts ((((place == winner) || nat_lt (rank r) least) || not (matches r.matching h))) _ a in
-    let elsewhere : (place == winner) ≡ false = ne_eqb place winner (λ here. omega arith) in
-    let out : p r ≡ false = false_from_ne_true (p r) (λ y.
-    let g = f r y in
-    let n : (((place == winner) || nat_lt (rank r) least) || not (matches r.matching h)) ≡ false = rw (elsewhere, g.0, g.1) refl in
-    both_ways _ n q.0) in
-    filter-out p r t out ∙ none-behind p h winner least (suc place) t f (omega arith) q.1
+    filter-out p r t (out-elsewhere p h winner least place r (f r) (λ here. omega arith) q.0) ∙ none-behind p h winner least (suc place) t f (omega arith) q.1
 
 only-there : (p : Rule → Bool) (h : Header) (winner least place at : ℕ) (w : Rule) (t : List Rule) → ((r : Rule) → p r ≡ true → (nat_lt (rank r) least ≡ false) × (matches r.matching h ≡ true))
     → winner ≡ place + at → slice_get t at ≡ Some w → p w ≡ true → all_lose h winner least place t ≡ true → filter p t ≡ w ∷ []
@@ -70,12 +75,7 @@ only-there p h winner least place zero w (r ∷ t) f e g y a =
     ∙ (ap (λ (xs : List Rule). r ∷ xs) (none-behind p h winner least (suc place) t f (omega arith) q.1) ∙ ap (λ (x : Rule). x ∷ []) same)
 only-there p h winner least place (suc at) w (r ∷ t) f e g y a =
     let q = and_parts ((((place == winner) || nat_lt (rank r) least) || not (matches r.matching h))) _ a in
-    let elsewhere : (place == winner) ≡ false = ne_eqb place winner (λ here. omega arith) in
-    let out : p r ≡ false = false_from_ne_true (p r) (λ y.
-    let g = f r y in
-    let n : (((place == winner) || nat_lt (rank r) least) || not (matches r.matching h)) ≡ false = rw (elsewhere, g.0, g.1) refl in
-    both_ways _ n q.0) in
-    filter-out p r t out ∙ only-there p h winner least (suc place) at w t f (omega arith) g y q.1
+    filter-out p r t (out-elsewhere p h winner least place r (f r) (λ here. omega arith) q.0) ∙ only-there p h winner least (suc place) at w t f (omega arith) g y q.1
 
 lost-low : (h : Header) (winner place : ℕ) (w r : Rule) → (place ≡ winner → ⊥) → (((place == winner) || nat_lt (rank r) (rank w)) || not (matches r.matching h)) ≡ true
     → (not (matches r.matching h) || (r.unsure || nat_le (rank r) (rank w))) ≡ true

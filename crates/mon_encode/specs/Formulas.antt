@@ -3,6 +3,7 @@ use Rattle.std.specs.Prelude.{ℕ, ◌+◌, ◌*◌, Bool, true, false, not, ◌
 use Rattle.mon_cnf.specs.declared.clause.Lit.{Lit}
 use Rattle.mon_cnf.specs.Formulas.{Cnf}
 use Rattle.mon_header.specs.declared.header.Header.{Header}
+use Rattle.mon_header.specs.declared.header.TheConstants.{BLANK}
 use Rattle.mon_header.specs.Matching.{matches}
 use Rattle.mon_header.specs.Places.{header_size, header_bits}
 use Rattle.mon_table.specs.declared.rule.Rule.{Rule}
@@ -20,20 +21,7 @@ use Rattle.mon_encode.specs.Clauses.{sures, winning, chain, hidden, not_missed}
 
 -- a header with nothing but a tag
 abbrev pub tagged : ℕ → Header
-tagged tag = record {
-  in_port = 0;
-  dl_src = 0;
-  dl_dst = 0;
-  dl_vlan = tag;
-  dl_vlan_pcp = 0;
-  dl_type = 0;
-  nw_tos = 0;
-  nw_proto = 0;
-  nw_src = 0;
-  nw_dst = 0;
-  tp_src = 0;
-  tp_dst = 0;
-}
+tagged tag = record BLANK { dl_vlan = tag }
 
 -- no action of the winner is unknown
 abbrev pub is_known : Option Rule → Bool

@@ -5,25 +5,16 @@ ghost use Rattle.mon_header.specs.declared.header.Header.{Header};
 ghost use Rattle.mon_outcome.specs.declared.emission.Emission.{Emission};
 ghost use Rattle.mon_shows.specs.Separation.{separates};
 ghost use Rattle.mon_encode.specs.declared.case.Case.{Case};
-ghost use Rattle.mon_encode.specs.Cases.{of_rule, of_miss, of_sure, of_any, by_winner, by_port, cases_of, IsCaseOf, BelongsTo};
+ghost use Rattle.mon_encode.specs.Cases.{of_rule, of_miss, of_any, by_winner, by_port, cases_of, IsCaseOf, BelongsTo};
 
 use crate::case::{Case, Cases};
+use mon_header::CLASSES;
 use mon_job::Job;
 use mon_list::OutOfMemory;
 use mon_outcome::{Class, rewrites};
 use mon_shows::{Nears, Target};
 use mon_table::{Rule, Table};
 use std::alloc::Global;
-
-/// All classes, in the order of the cases.
-const CLASSES: [Class; 6] = [
-    Class::Tcp,
-    Class::Udp,
-    Class::Icmp,
-    Class::OtherIpv4,
-    Class::Plain,
-    Class::Arp,
-];
 
 /// Appends the cases in which the rule wins, which stands at this place.
 fn push_rule(
@@ -53,23 +44,6 @@ fn push_rule(
     Ok(())
 }
 
-/// Appends the cases in which a sure rule wins, and none for an unsure one, which never wins alone.
-fn push_sure(
-    alloc: Global,
-    cases: &mut Cases,
-    class: Class,
-    in_port: u16,
-    place: u32,
-    rule: &Rule,
-) -> Result<(), OutOfMemory>
-    ensures { OnOk result (cases.new ≡ cases.old ++ of_sure class in_port place rule.now) }
-{
-    if rule.unsure {
-        return Ok(());
-    }
-    push_rule(alloc, cases, class, in_port, place, rule)
-}
-
 /// Appends the cases in which any sure rule wins, or none matches.
 fn push_any(
     alloc: Global,
@@ -81,7 +55,11 @@ fn push_any(
     ensures { OnOk result (cases.new ≡ cases.old ++ of_any class in_port 0 t.now) }
 {
     for place in 0..t.len() {
-        push_sure(alloc, cases, class, in_port, place, t.rule(place))?;
+        let rule = t.rule(place);
+        // An unsure rule never wins alone.
+        if !rule.unsure {
+            push_rule(alloc, cases, class, in_port, place, rule)?;
+        }
     }
     cases.push(Case {
         class,
