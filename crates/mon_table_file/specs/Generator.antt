@@ -1,6 +1,8 @@
 -- A view and a table of rules that are made from numbers.
 use Rattle.std.specs.Prelude.{ℕ, zero, suc, ◌+◌, ◌*◌, ◌/◌, ◌%◌, Bool, true, false, not, ◌==◌, if◌then◌else◌, List, [], ◌∷◌}
 use Rattle.mon_header.specs.declared.header.Header.{Header}
+use Rattle.mon_header.specs.declared.header.TheConstants.{BLANK}
+use Rattle.mon_header.specs.Assigned.{IPV4_TYPE, UDP_PROTOCOL}
 use Rattle.mon_header.specs.declared.wild.Wildcards.{Wildcards}
 use Rattle.mon_header.specs.declared.action.Action.{Action}
 use Rattle.mon_header.specs.declared.action.Action.TheVariants.{Output}
@@ -58,19 +60,10 @@ wild_of k = record {
 
 -- IPv4 to an address above 10.0.0.0
 unfoldable pub fields_of : ℕ → Header
-fields_of k = record {
-  in_port = 0;
-  dl_src = 0;
-  dl_dst = 0;
-  dl_vlan = 0;
-  dl_vlan_pcp = 0;
-  dl_type = 0x0800;
-  nw_tos = 0;
-  nw_proto = if is_for_udp k then 17 else 0;
-  nw_src = 0;
+fields_of k = record BLANK {
+  dl_type = IPV4_TYPE;
+  nw_proto = if is_for_udp k then UDP_PROTOCOL else 0;
   nw_dst = 0x0a000000 + 256 * k;
-  tp_src = 0;
-  tp_dst = 0;
 }
 
 -- an output to one of the ports 1 to 4

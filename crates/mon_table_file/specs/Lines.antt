@@ -4,8 +4,10 @@ use Rattle.std.specs.List.{flat_map}
 use Rattle.std.specs.Int.{w64, to_be_bytes}
 use Rattle.mon_text.specs.Hex.{hex, AllBytes, AreBytes}
 use Rattle.mon_header.specs.declared.action.Action.{Action}
+use Rattle.mon_header.specs.Assigned.{LAST_PORT}
 use Rattle.mon_table.specs.declared.rule.Rule.{Rule}
 use Rattle.mon_shows.specs.declared.near.Near.{Near}
+use Rattle.mon_topo.specs.Ascending.{LAST_VID}
 use Rattle.of_match.specs.Layout.{match_of}
 use Rattle.of_action.specs.Reading.{actions_of}
 use Rattle.mon_text.specs.Parts.{feed}
@@ -44,10 +46,10 @@ link_line n =
 
 -- a port of a link, and a tag
 abbrev pub IsPort : ℕ → Type 0
-IsPort n = (1 ≤ n) × (n ≤ 65280)
+IsPort n = (1 ≤ n) × (n ≤ LAST_PORT)
 
 abbrev pub IsTag : ℕ → Type 0
-IsTag n = (1 ≤ n) × (n ≤ 4094)
+IsTag n = (1 ≤ n) × (n ≤ LAST_VID)
 
 -- the numbers of a link are in range
 pub record FitsNear (n : Near) : Type 0 where

@@ -3,25 +3,27 @@ use Rattle.std.specs.Prelude.{ℕ, zero, suc, ◌≤◌, ◌<◌, ◌^◌, Bool,
 use Rattle.std.specs.List.{AllByRecursion}
 use Rattle.mon_text.specs.Parts.{Part, behind, led, ended, both, seen, passing, bytes_in, run_in, number_within, datapath_in, feed}
 use Rattle.mon_header.specs.declared.action.Action.{Action}
+use Rattle.mon_header.specs.Assigned.{LAST_PORT}
 use Rattle.mon_header.specs.Matching.{Matching}
 use Rattle.mon_table.specs.declared.rule.Rule.{Rule}
 use Rattle.mon_shows.specs.declared.near.Near.{Near}
 use Rattle.mon_shows.specs.Views.{Viewing, is_in_use}
+use Rattle.mon_topo.specs.Ascending.{LAST_VID}
 use Rattle.of_match.specs.Layout.{match_of}
 use Rattle.of_action.specs.Reading.{actions_of}
 use Rattle.mon_table_file.specs.declared.sections.Head.{Head}
 use Rattle.mon_table_file.specs.Lines.{first_line, switch_line, tags_line, miss_line, IsTag, Row, are_actions, actions_given, rule_given}
 
--- a port of 1 to 65280 and a space
+-- a port of a switch and a space
 abbrev pub port_in : List ℕ → Part ℕ
-port_in = ended (codes " ") (number_within 1 65280)
+port_in = ended (codes " ") (number_within 1 LAST_PORT)
 
 abbrev pub datapath_word : List ℕ → Part ℕ
 datapath_word = ended (codes " ") datapath_in
 
--- the last word of a line, a tag of 1 to 4094
+-- the last word of a line, a tag
 abbrev pub last_tag : List ℕ → Part ℕ
-last_tag = ended (feed) (number_within 1 4094)
+last_tag = ended (feed) (number_within 1 LAST_VID)
 
 unfoldable pub switch_in : List ℕ → Part (ℕ × ℕ)
 switch_in = led (codes "switch ") (both datapath_word last_tag)
@@ -42,7 +44,7 @@ end_or (Some rest) more = Some ([], rest)
 unfoldable pub tags_in : ℕ → List ℕ → Part (List ℕ)
 tags_in zero text = None
 tags_in (suc n) text =
-    end_or (behind (feed) text) (option_and_then (λ p. tag_before p.0 (tags_in n p.1)) (led (codes " ") (number_within 1 4094) text))
+    end_or (behind (feed) text) (option_and_then (λ p. tag_before p.0 (tags_in n p.1)) (led (codes " ") (number_within 1 LAST_VID) text))
 
 abbrev pub near_of : ℕ × (ℕ × (ℕ × ℕ)) → Near
 near_of x = record { port = x.0; switch = x.1.0; far_port = x.1.1.0; tag = x.1.1.1 }
