@@ -197,3 +197,6 @@ is_message bytes m = ((λ e. subst (Answered bytes) e (answered bytes)), of_mess
 
 pub finds_memory : (bytes : List ℕ) → flow_mod_in bytes ≢ Err faults.OutOfMemory
 finds_memory bytes e = subst (Answered bytes) e (answered bytes)
+
+-- the law, but for its clause on messages
+pub ruleset reading = (determined, reads, finds_memory)

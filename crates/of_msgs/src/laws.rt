@@ -10,6 +10,7 @@ ghost use Rattle.of_msgs.specs.ReadMods.{flow_mod_in};
 /// A reader of FLOW_MODs can answer one thing only for the same bytes, unless memory runs out. This answer is a message
 /// exactly where the bytes are one, never that memory ran out, and a fault of bytes that a frame has room for only where
 /// they have it.
+#[tactic(auto, using(crate::proofs::Determined::reading))]
 pub fn reading_is_a_function()
     ensures determined { (bytes : List ℕ) (answer : Result FlowMod ModFault) → ReadsFlowMod bytes answer → (answer ≡ Err faults.OutOfMemory) ⊎ (answer ≡ flow_mod_in bytes) }
     ensures message { (bytes : List ℕ) (m : FlowMod) → (flow_mod_in bytes ≡ Ok m) ↔ IsFlowMod bytes m }
