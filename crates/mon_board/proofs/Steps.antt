@@ -62,11 +62,11 @@ has_either (p ∷ ps) qs slot version h = ⊎_elim (λ (x : (p.0 ≡ slot) × (p
     (λ x. ⊎_elim (λ y. inl (has_there p ps slot version y)) (λ y. inr y) (has_either ps qs slot version x)) (has_first p (ps ++ qs) slot version h)
 
 -- the last of a list that is one longer
-last_from_here : (d : ℕ) (ps : Marks) (slot version : ℕ) → last_from d (ps ++ (slot, version) ∷ []) slot ≡ version
+pub last_from_here : (d : ℕ) (ps : Marks) (slot version : ℕ) → last_from d (ps ++ (slot, version) ∷ []) slot ≡ version
 last_from_here d [] slot version = ap (λ (b : Bool). if b then version else d) (eq-eqb slot slot refl)
 last_from_here d (p ∷ ps) slot version = last_from_here (if eqb p.0 slot then p.1 else d) ps slot version
 
-last_from_else : (d : ℕ) (ps : Marks) (slot version other : ℕ) → slot ≢ other → last_from d (ps ++ (slot, version) ∷ []) other ≡ last_from d ps other
+pub last_from_else : (d : ℕ) (ps : Marks) (slot version other : ℕ) → slot ≢ other → last_from d (ps ++ (slot, version) ∷ []) other ≡ last_from d ps other
 last_from_else d [] slot version other ne = ap (λ (b : Bool). if b then version else d) (ne_eqb slot other ne)
 last_from_else d (p ∷ ps) slot version other ne = last_from_else (if eqb p.0 other then p.1 else d) ps slot version other ne
 
@@ -208,6 +208,22 @@ splits key seat v s h at =
         kept.2,
         λ j u e. ⊎_elim (λ (was : get_elem? (set s.views seat v) j ≡ some u). kept.3 j u (subst (λ (l : List View). get_elem? l j ≡ some u) (set_again s.views seat v at) was))
             (λ (is : new ≡ u). subst (λ (y : View). Fits kept.1 kept.0 j y) is ((λ no. absurd (true≢false (sym no))), mine.1)) (at_snoc (set s.views seat v) new u j e),
+      ),
+    )
+
+-- a new seat that saw nothing
+pub starts_blank : (key seat : ℕ) (v : View) → Splits (Holds key) seat v v (view false [] [])
+starts_blank key seat v s h at =
+    let kept = h.1 in
+    let new : View = view false [] [] in (
+      h.0,
+      (
+        kept.0,
+        kept.1,
+        kept.2,
+        λ j u e. ⊎_elim (λ (was : get_elem? (set s.views seat v) j ≡ some u). kept.3 j u (subst (λ (l : List View). get_elem? l j ≡ some u) (set_again s.views seat v at) was))
+            (λ (is : new ≡ u). subst (λ (y : View). Fits kept.1 kept.0 j y) is ((λ no. absurd (true≢false (sym no))), (λ k x none. absurd (true≢false (sym none)))))
+            (at_snoc (set s.views seat v) new u j e),
       ),
     )
 

@@ -2,7 +2,7 @@
 
 ghost use Rattle.std.specs.Prelude.{◌≡◌, true, []};
 
-use crate::rule::{Look, Pair, Publish, Rule, Show, View};
+use crate::rule::{Blank, Look, Pair, Publish, Rule, Show, View};
 use atomic_table::{Seat, Table};
 use mon_list::OutOfMemory;
 use std::alloc::Global;
@@ -84,6 +84,19 @@ impl Board {
     {
         Looker {
             seat: self.table.shared.split_seat::<Pair>(&mut seat.seat),
+        }
+    }
+
+    /// A looker that saw nothing yet. What it will have seen is what was seen since.
+    pub fn blank(&self, seat: &mut Looker) -> Looker
+        requires board { IsLookerOf self.now seat.old }
+        requires some { 0 < slots_of self.now }
+        ensures board { IsLookerOf self.now seat.new × IsLookerOf self.now result }
+        ensures same { seen_by seat.new ≡ seen_by seat.old }
+        ensures none { seen_by result ≡ [] }
+    {
+        Looker {
+            seat: self.table.shared.split_seat::<Blank>(&mut seat.seat),
         }
     }
 

@@ -70,3 +70,15 @@ impl Join<View> for Pair {
 
     ghost spent = { view false [] [] };
 }
+
+/// How a seat becomes two, of which the second looks and saw nothing yet.
+pub(crate) struct Blank;
+
+impl Split<View> for Blank {
+    ghost use Rattle.std.specs.Prelude.{false, []};
+    ghost use Rattle.mon_board.specs.Rule.{view};
+
+    ghost left = { λ v. v };
+
+    ghost right = { λ _. view false [] [] };
+}
