@@ -19,6 +19,7 @@ fn answer<S: Stop>(alloc: Global, job: &Job, stop: &mut S) -> Says
     requires unshown { S.shown stop.old ≡ None }
     requires floor { S.floor stop.old ≡ job.now.version }
     ensures truth { IsTrueOf job.now result }
+    ensures about { S.about stop.new ≡ S.about stop.old }
     ensures shown { S.shown stop.new ≡ seen_in result }
     ensures asked { AskedFor job.now result before (S.asked stop.new) }
 {
@@ -46,6 +47,7 @@ pub fn decide<S: Stop>(alloc: Global, job: Arc<Job>, stop: &mut S) -> Verdict
     requires unshown { S.shown stop.old ≡ None }
     requires floor { S.floor stop.old ≡ (arc_value job).version }
     ensures same_job { result.job ≡ arc_value job }
+    ensures about { S.about stop.new ≡ S.about stop.old }
     ensures skipped { S.shown stop.new ≡ seen_in result.says }
     ensures asked { AskedFor result.job result.says (S.asked stop.old) (S.asked stop.new) }
 {

@@ -5,6 +5,12 @@ ghost use Rattle.mon_solve.specs.Answers.{counted};
 
 /// Whether a job may be given up, since it was overtaken.
 pub trait Stop {
+    /// What it asks about, as a board and a slot of it.
+    type About;
+
+    /// What this one asks about, which never changes: so whoever made it knows that of it still when it comes back.
+    ghost about: { Self → Self.About };
+
     /// The version of the job, which never changes.
     ghost floor: { Self → ℕ };
 
@@ -16,6 +22,7 @@ pub trait Stop {
 
     /// A version above the floor, which was seen, or none.
     fn ask(&mut self) -> Option<u64>
+        ensures about { about self.new ≡ about self.old }
         ensures same { floor self.new ≡ floor self.old }
         ensures told { shown self.new ≡ result }
         ensures counted { asked self.new ≡ option_map (λ n. counted (n + 1)) (asked self.old) }
@@ -30,6 +37,10 @@ pub struct Never {
 }
 
 impl Stop for Never {
+    type About = ();
+
+    ghost about = { λ _. tt };
+
     ghost floor = { λ n. n.floor };
 
     ghost shown = { λ _. None };

@@ -63,6 +63,10 @@ struct Counting {
 }
 
 impl Stop for Counting {
+    type About = ();
+
+    ghost about = { λ _. tt };
+
     ghost floor = { λ s. s.floor };
 
     ghost shown = { λ s. s.shown };

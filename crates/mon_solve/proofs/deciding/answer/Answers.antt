@@ -4,6 +4,7 @@ use Rattle.mon_solve.proofs.deciding.answer.Goals as goal
 
 pub loop-case-preserved : goal.loop-case-preserved
 loop-case-preserved g c = record {
+  about = c.ask.ensures.about ∙ c.loop-case.invariant.about;
   floor = c.ask.ensures.same ∙ c.loop-case.invariant.floor;
   shown = c.ask.ensures.told ∙ none_given c.ask.result c.in_default-ask.not-Some;
   asked = asked_more c.loop-case.case-index _ _ _ c.loop-case.invariant.asked c.ask.ensures.counted;

@@ -5,6 +5,7 @@ use Rattle.mon_solve.proofs.deciding.answer.Given as goal
 
 abbrev pub invariant-loop-case : goal.invariant-loop-case
 invariant-loop-case g l = record {
+  about : g.S.Stop.about l.stop ≡ g.S.Stop.about l.initial.stop;
   floor : g.S.Stop.floor l.stop ≡ l.job.version;
   shown : g.S.Stop.shown l.stop ≡ None;
   asked : AskedAtLeast l.case-index g.before (g.S.Stop.asked l.stop);
