@@ -1,0 +1,5 @@
+pub mod Closing
+pub mod Counts
+pub mod Lists
+pub mod Rising
+pub mod Telling
