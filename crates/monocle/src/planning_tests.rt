@@ -78,7 +78,29 @@ const PROBE: &str =
 const TURNED: &str =
     "monocle-certificates 1\nrules 1\nprobe 0 000100000000000000000000000000640008000006000000000a00010100000000 port 2 000100000000000000000000000000640008000006000000000a00000100000000\n";
 
-const PLANS: [Row; 3] = [
+/// The same switch in a file of the second version, in which a rule may be unsure.
+const SWITCH_2: &str =
+    "monocle-table 2\nswitch 0000000000000001 100\ntags 100 101\nmiss 128\nlink 1 0000000000000002 1 101\nlink 2 0000000000000003 1 101\n";
+
+/// All IPv4 packets go to port 1, above and below the rule for 10.0.0.0/24, by rules that may be gone.
+const ABOVE: &str =
+    "rule 200 003820ef000000000000000000000000000000000000080000000000000000000000000000000000 0000000800010000 unsure\n";
+
+const BELOW: &str =
+    "rule 50 003820ef000000000000000000000000000000000000080000000000000000000000000000000000 0000000800010000 unsure\n";
+
+/// All IPv4 packets go to port 2, below all others.
+const LOWEST: &str =
+    "rule 10 003820ef000000000000000000000000000000000000080000000000000000000000000000000000 0000000800020000\n";
+
+/// ARP packets go to port 2.
+const ARP: &str =
+    "rule 100 003820ef000000000000000000000000000000000000080600000000000000000000000000000000 0000000800020000\n";
+
+/// Generated rules; one that does the same as a lower one; ties; a lower rule that may be gone, so that a still lower one
+/// does the same as the first, and is never alone; a higher one that may be gone, so that the lower is never alone; and a
+/// rule for ARP.
+const PLANS: [Row; 6] = [
     (
         "plan --generate 4 --seed 7",
         &[],
@@ -104,6 +126,33 @@ const PLANS: [Row; 3] = [
         Failing::Nothing,
         0,
         TIES,
+        "",
+    ),
+    (
+        PLAN,
+        &[SWITCH_2, TO_24, BELOW, LOWEST],
+        "",
+        Failing::Nothing,
+        0,
+        "rules 3\nprobes 1\nindistinguishable 2\noverlap 0\n",
+        "",
+    ),
+    (
+        PLAN,
+        &[SWITCH_2, ABOVE, TO_24],
+        "",
+        Failing::Nothing,
+        0,
+        "rules 2\nprobes 1\nindistinguishable 1\noverlap 0\n",
+        "",
+    ),
+    (
+        PLAN,
+        &[SWITCH, ARP],
+        "",
+        Failing::Nothing,
+        0,
+        "rules 1\nprobes 1\nindistinguishable 0\noverlap 0\n",
         "",
     ),
 ];
