@@ -1,4 +1,5 @@
 pub mod Planning
 pub mod Ranging
+pub mod Sharing
 pub mod Checking
 pub mod Counting

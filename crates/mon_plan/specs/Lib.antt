@@ -1,3 +1,4 @@
 pub mod Planning
+pub mod Sharing
 pub mod Checking
 pub mod Counting

@@ -3,6 +3,7 @@
 use crate::tests::replays;
 use std::alloc::Global;
 use std::test::Fail;
+use std::thread::Threads;
 
 /// The match of IPv4 packets to 10.0.0.0/24.
 const TO_24: &str =
@@ -103,11 +104,11 @@ type Row = (
 );
 
 /// Whether a replay of these FLOW_MODs writes these lines.
-fn is_written(alloc: Global, row: &Row) -> Result<bool, Fail> {
+fn is_written<R: Threads + Sync>(rt: &R, alloc: Global, row: &Row) -> Result<bool, Fail> {
     let (sent, put, table) = *row;
     let records = records_of(alloc, sent)?;
     let lines = lines_of(alloc, put, table)?;
-    replays(alloc, records.as_str(), lines.as_str())
+    replays(rt, alloc, records.as_str(), lines.as_str())
 }
 
 const DELETE_ALL: FlowMod = (
@@ -184,7 +185,7 @@ const PASSED: [Row; 5] = [
 #[test]
 fn edits_go_on_and_are_followed(rt: HostRuntime) -> Result<(), Fail> {
     for (number, row) in PASSED.iter().enumerate() {
-        assert!(rt; is_written(rt.alloc(), row)?, "at {number}");
+        assert!(rt; is_written(&rt, rt.alloc(), row)?, "at {number}");
     }
     Ok(())
 }
@@ -272,7 +273,7 @@ const MODIFIED: [Row; 3] = [
 #[test]
 fn modifications_add_or_change(rt: HostRuntime) -> Result<(), Fail> {
     for (number, row) in MODIFIED.iter().enumerate() {
-        assert!(rt; is_written(rt.alloc(), row)?, "at {number}");
+        assert!(rt; is_written(&rt, rt.alloc(), row)?, "at {number}");
     }
     Ok(())
 }
@@ -312,7 +313,8 @@ const REFUSED: [(&str, &str, &str, &str, u32); 4] = [
 
 /// Whether a FLOW_MOD for `TO_24` with this header, these fields, this rest and so many OUTPUT actions behind it is
 /// answered by an ERROR of this type and code alone.
-fn is_refused(
+fn is_refused<R: Threads + Sync>(
+    rt: &R,
     alloc: Global,
     cause: &str,
     header: &str,
@@ -331,14 +333,14 @@ fn is_refused(
     }
     records.push_str("\n")?;
     let line = format!(in alloc; "2 put 0 controller 0101004c00000011{cause}{kept}\n")?;
-    replays(alloc, records.as_str(), line.as_str())
+    replays(rt, alloc, records.as_str(), line.as_str())
 }
 
 #[test]
 fn what_cannot_be_followed_is_answered_by_an_error(rt: HostRuntime) -> Result<(), Fail> {
     for (cause, header, fields, rest, actions) in REFUSED {
         assert!(rt;
-            is_refused(rt.alloc(), cause, header, fields, rest, actions)?,
+            is_refused(&rt, rt.alloc(), cause, header, fields, rest, actions)?,
             "at {cause}"
         );
     }
@@ -378,6 +380,6 @@ const OVERLAPPING: Row = (
 
 #[test]
 fn an_overlap_is_refused_where_it_is_asked_for(rt: HostRuntime) -> Result<(), Fail> {
-    assert!(rt; is_written(rt.alloc(), &OVERLAPPING)?);
+    assert!(rt; is_written(&rt, rt.alloc(), &OVERLAPPING)?);
     Ok(())
 }

@@ -57,7 +57,7 @@ fn main(rt: HostRuntime) -> ExitCode {
     let words = words_of(&rt);
     let mut desk = StdDesk::new(rt);
     match words {
-        Ok(words) => ExitCode::from(monocle(alloc, &words, &mut desk)),
+        Ok(words) => ExitCode::from(monocle(&rt, alloc, &words, &mut desk)),
         Err(_) => ExitCode::from(out_of_memory(alloc, &mut desk)),
     }
 }

@@ -16,6 +16,7 @@ use mon_table::Table;
 use mon_words::Source;
 use mon_world::{Desk, OutOfMemory};
 use std::alloc::Global;
+use std::thread::Threads;
 
 /// A line for each number of a summary.
 fn summary_text(alloc: Global, s: &Summary) -> Result<String, OutOfMemory>
@@ -29,7 +30,8 @@ fn summary_text(alloc: Global, s: &Summary) -> Result<String, OutOfMemory>
 }
 
 /// The summary of a table, or certificates of all its rules.
-fn plan_text(
+fn plan_text<R: Threads + Sync>(
+    rt: &R,
     alloc: Global,
     v: &View,
     t: &Table,
@@ -38,7 +40,7 @@ fn plan_text(
 ) -> Result<Vec<u8>, OutOfMemory>
     ensures { IfOk result (λ bytes. IsPlan certificates v.now t.now bytes.items) }
 {
-    let planned = plan_table(alloc, v, t, workers)?;
+    let planned = plan_table(rt, alloc, v, t, workers)?;
     if certificates {
         return write_certificates(alloc, &planned);
     }
@@ -49,7 +51,8 @@ fn plan_text(
 /// Plans the table of a source, and writes the certificates of its rules where they are asked for, else its summary. It
 /// answers 0, 3 where the table's file can't be read, 5 where it is no table, 6 where writing fails, and 7 for want of
 /// memory.
-pub fn plan<D: Desk>(
+pub fn plan<R: Threads + Sync, D: Desk>(
+    rt: &R,
     alloc: Global,
     source: &Source,
     workers: u32,
@@ -67,7 +70,7 @@ pub fn plan<D: Desk>(
         Ok(found) => found,
         Err(status) => return status,
     };
-    match plan_text(alloc, &view, &table, workers, certificates) {
+    match plan_text(rt, alloc, &view, &table, workers, certificates) {
         Ok(bytes) => put(alloc, &bytes, 0, desk),
         Err(_) => out_of_memory(alloc, desk),
     }

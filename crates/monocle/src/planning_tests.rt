@@ -3,6 +3,7 @@
 use crate::runs::{Failing, ends, files_of, writes};
 use std::alloc::Global;
 use std::test::Fail;
+use std::thread::Threads;
 
 /// Switch 1 with the tag 100, and links at the ports 1 and 2 to switches of the tag 101.
 const SWITCH: &str =
@@ -47,18 +48,18 @@ type Row = (
 );
 
 /// Whether a run over this table and these certificates ends with this status, and writes and says this alone.
-fn ends_so(alloc: Global, row: &Row) -> Result<bool, Fail> {
+fn ends_so<R: Threads + Sync>(rt: &R, alloc: Global, row: &Row) -> Result<bool, Fail> {
     let (words, table, certificates, failing, status, written, said) = *row;
     let table = joined(alloc, table)?;
     let other = "one.certificates";
     let files = files_of(alloc, "one.table", table.as_str(), other, certificates)?;
-    ends(alloc, words, files, failing, status, written, said)
+    ends(rt, alloc, words, files, failing, status, written, said)
 }
 
 /// Whether all runs end so.
-fn all_end_so(alloc: Global, rows: &[Row]) -> Result<bool, Fail> {
+fn all_end_so<R: Threads + Sync>(rt: &R, alloc: Global, rows: &[Row]) -> Result<bool, Fail> {
     for row in rows {
-        if !ends_so(alloc, row)? {
+        if !ends_so(rt, alloc, row)? {
             return Ok(false);
         }
     }
@@ -198,19 +199,20 @@ const CHECKS: [Row; 4] = [
 
 #[test]
 fn tables_are_planned_and_certificates_checked(rt: HostRuntime) -> Result<(), Fail> {
-    assert!(rt; all_end_so(rt.alloc(), &PLANS)?);
-    assert!(rt; all_end_so(rt.alloc(), &CHECKS)?);
+    assert!(rt; all_end_so(&rt, rt.alloc(), &PLANS)?);
+    assert!(rt; all_end_so(&rt, rt.alloc(), &CHECKS)?);
     Ok(())
 }
 
 #[test]
 fn a_plan_is_accepted(rt: HostRuntime) -> Result<(), Fail> {
     let alloc = rt.alloc();
-    let plan = writes(alloc, "plan --certificates --generate=20 --seed 7")?;
+    let plan = writes(&rt, alloc, "plan --certificates --generate=20 --seed 7")?;
     let files = files_of(alloc, "one.table", "", "one.certificates", plan.as_str())?;
     let words = "check --generate 20 --seed=7 one.certificates";
     assert!(rt;
         ends(
+            &rt,
             alloc,
             words,
             files,
@@ -385,7 +387,7 @@ const FAULTS: [Row; 7] = [
 
 #[test]
 fn what_is_out_of_form_and_what_fails_is_said(rt: HostRuntime) -> Result<(), Fail> {
-    assert!(rt; all_end_so(rt.alloc(), &OUT_OF_FORM)?);
-    assert!(rt; all_end_so(rt.alloc(), &FAULTS)?);
+    assert!(rt; all_end_so(&rt, rt.alloc(), &OUT_OF_FORM)?);
+    assert!(rt; all_end_so(&rt, rt.alloc(), &FAULTS)?);
     Ok(())
 }

@@ -4,6 +4,7 @@ use crate::words::monocle;
 use mon_world::{FileBytes, MemoryDesk, NamedFile, NamedFiles, Places, Text};
 use std::alloc::Global;
 use std::test::Fail;
+use std::thread::Threads;
 
 /// Which read or which write is to fail, counted from 0.
 #[derive(Clone, Copy)]
@@ -57,7 +58,8 @@ fn desk_of(alloc: Global, files: NamedFiles, failing: Failing) -> Result<MemoryD
 }
 
 /// Whether a run over these files, where this fails, ends with this status, and writes and says this alone.
-pub(crate) fn ends(
+pub(crate) fn ends<R: Threads + Sync>(
+    rt: &R,
     alloc: Global,
     words: &str,
     files: NamedFiles,
@@ -68,15 +70,19 @@ pub(crate) fn ends(
 ) -> Result<bool, Fail> {
     let words = words_of(alloc, words)?;
     let mut desk = desk_of(alloc, files, failing)?;
-    let ended = monocle(alloc, &words, &mut desk);
+    let ended = monocle(rt, alloc, &words, &mut desk);
     Ok(ended == status && desk.written() == written.as_bytes() && desk.said() == said.as_bytes())
 }
 
 /// What a run over no files writes.
-pub(crate) fn writes(alloc: Global, words: &str) -> Result<String, Fail> {
+pub(crate) fn writes<R: Threads + Sync>(
+    rt: &R,
+    alloc: Global,
+    words: &str,
+) -> Result<String, Fail> {
     let words = words_of(alloc, words)?;
     let mut desk = desk_of(alloc, NamedFiles::new(alloc), Failing::Nothing)?;
-    if monocle(alloc, &words, &mut desk) != 0 {
+    if monocle(rt, alloc, &words, &mut desk) != 0 {
         return Err(Fail::new("another status than 0"));
     }
     match String::from_utf8(Vec::from_slice(alloc, desk.written())?) {

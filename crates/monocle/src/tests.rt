@@ -4,6 +4,7 @@ use crate::runs::{Failing, ends, files_of};
 use mon_world::NamedFiles;
 use std::alloc::Global;
 use std::test::Fail;
+use std::thread::Threads;
 
 const REPLAY: &str = "replay settings.json one.trace";
 
@@ -14,9 +15,14 @@ fn traced(alloc: Global, records: &str) -> Result<NamedFiles, Fail> {
 }
 
 /// Whether a replay of these records writes this alone.
-pub(crate) fn replays(alloc: Global, records: &str, written: &str) -> Result<bool, Fail> {
+pub(crate) fn replays<R: Threads + Sync>(
+    rt: &R,
+    alloc: Global,
+    records: &str,
+    written: &str,
+) -> Result<bool, Fail> {
     let files = traced(alloc, records)?;
-    ends(alloc, REPLAY, files, Failing::Nothing, 0, written, "")
+    ends(rt, alloc, REPLAY, files, Failing::Nothing, 0, written, "")
 }
 
 /// Records of one frame, and its line.
@@ -46,7 +52,7 @@ const REPLAYS: [(&str, &str); 5] = [
 #[test]
 fn frames_are_passed_on_up_to_a_faulty_one(rt: HostRuntime) -> Result<(), Fail> {
     for (records, written) in REPLAYS {
-        assert!(rt; replays(rt.alloc(), records, written)?, "at {records}");
+        assert!(rt; replays(&rt, rt.alloc(), records, written)?, "at {records}");
     }
     Ok(())
 }
@@ -74,7 +80,7 @@ fn the_largest_frame_comes_with_its_last_byte(rt: HostRuntime) -> Result<(), Fai
     }
     let records = pieces_of(alloc, digits.as_str())?;
     let written = format!(in alloc; "17 put 0 controller {digits}\n")?;
-    assert!(rt; replays(alloc, records.as_str(), written.as_str())?);
+    assert!(rt; replays(&rt, alloc, records.as_str(), written.as_str())?);
     Ok(())
 }
 
@@ -99,7 +105,7 @@ fn words_that_ask_for_nothing_are_refused(rt: HostRuntime) -> Result<(), Fail> {
         let files = traced(alloc, RECORDS)?;
         let said = "monocle: bad words\n";
         assert!(rt;
-            ends(alloc, words, files, Failing::Nothing, 2, "", said)?,
+            ends(&rt, alloc, words, files, Failing::Nothing, 2, "", said)?,
             "at {words}"
         );
     }
@@ -125,7 +131,7 @@ fn failing_reads_and_writes_are_said(rt: HostRuntime) -> Result<(), Fail> {
     for (failing, status, written, said) in FAULTS {
         let files = traced(alloc, RECORDS)?;
         assert!(rt;
-            ends(alloc, REPLAY, files, failing, status, written, said)?,
+            ends(&rt, alloc, REPLAY, files, failing, status, written, said)?,
             "at {said}"
         );
     }
@@ -133,20 +139,45 @@ fn failing_reads_and_writes_are_said(rt: HostRuntime) -> Result<(), Fail> {
 }
 
 /// Whether a replay of a trace with this text, by this name, ends with this status and says this.
-fn is_refused(alloc: Global, text: &str, name: &str, status: u8, said: &str) -> Result<bool, Fail> {
+fn is_refused<R: Threads + Sync>(
+    rt: &R,
+    alloc: Global,
+    text: &str,
+    name: &str,
+    status: u8,
+    said: &str,
+) -> Result<bool, Fail> {
     let files = files_of(alloc, "settings.json", "{}", name, text)?;
-    ends(alloc, REPLAY, files, Failing::Nothing, status, "", said)
+    ends(rt, alloc, REPLAY, files, Failing::Nothing, status, "", said)
 }
 
 #[test]
 fn what_is_no_trace_is_refused(rt: HostRuntime) -> Result<(), Fail> {
     let alloc = rt.alloc();
-    assert!(rt; is_refused(alloc, "", "one.trace", 5, "monocle: trace: offset 0\n")?);
+    assert!(rt; is_refused(&rt, alloc, "", "one.trace", 5, "monocle: trace: offset 0\n")?);
     let text = "monocle-trace 1 0000000000000001\nanswer 0\n";
-    assert!(rt; is_refused(alloc, text, "one.trace", 5, "monocle: trace: offset 33\n")?);
+    assert!(rt;
+        is_refused(
+            &rt,
+            alloc,
+            text,
+            "one.trace",
+            5,
+            "monocle: trace: offset 33\n"
+        )?
+    );
     let text = "monocle-trace 1 0000000000000001\nopen\nlose\nfrom controller 0 00\n";
-    assert!(rt; is_refused(alloc, text, "one.trace", 5, "monocle: trace: offset 43\n")?);
+    assert!(rt;
+        is_refused(
+            &rt,
+            alloc,
+            text,
+            "one.trace",
+            5,
+            "monocle: trace: offset 43\n"
+        )?
+    );
     let missing = "monocle: cannot read one.trace\n";
-    assert!(rt; is_refused(alloc, text, "two.trace", 3, missing)?);
+    assert!(rt; is_refused(&rt, alloc, text, "two.trace", 3, missing)?);
     Ok(())
 }

@@ -15,9 +15,15 @@ use crate::saying::{out_of_memory, refused};
 use mon_words::{Command, WordsFault, read_words};
 use mon_world::{Desk, Text};
 use std::alloc::Global;
+use std::thread::Threads;
 
 /// Reads the words and makes the call that they ask for; at words that spell no command it answers 2.
-pub fn monocle<D: Desk>(alloc: Global, words: &[Text], desk: &mut D) -> u8
+pub fn monocle<R: Threads + Sync, D: Desk>(
+    rt: &R,
+    alloc: Global,
+    words: &[Text],
+    desk: &mut D,
+) -> u8
     ensures words { result ≡ 2 → (c : Command) → Spells c words.now → ⊥ }
     ensures bad_words { ((c : Command) → Spells c words.now → ⊥) → (result ≡ 2) ⊎ (result ≡ 7) }
     ensures runs { result ≢ 2 → result ≢ 7 → (c : Command) × Spells c words.now
@@ -37,7 +43,7 @@ pub fn monocle<D: Desk>(alloc: Global, words: &[Text], desk: &mut D) -> u8
                 workers,
                 certificates,
             },
-        ) => plan(alloc, &source, workers, certificates, desk),
+        ) => plan(rt, alloc, &source, workers, certificates, desk),
         Ok(
             Command::Check {
                 source,

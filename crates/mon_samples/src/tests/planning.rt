@@ -9,6 +9,7 @@ use mon_shows::Target;
 use mon_table::Table;
 use std::alloc::Global;
 use std::test::Fail;
+use std::thread::Threads;
 
 /// That rule over one for all IPv4 at priority 50, with the same output.
 fn nested(alloc: Global) -> Result<Table, OutOfMemory> {
@@ -111,9 +112,15 @@ fn there_are_as_many_certificates_as_rules(rt: HostRuntime) -> Result<(), Fail> 
     Ok(())
 }
 
-/// Whether the plan of the table is accepted, and has this summary.
-fn plans(alloc: Global, table: &Table, summary: Summary) -> Result<bool, OutOfMemory> {
-    let planned = plan_table(alloc, &two_neighbours(alloc)?, table, 1)?;
+/// Whether the plan of the table by so many workers is accepted, and has this summary.
+fn plans<R: Threads + Sync>(
+    rt: &R,
+    alloc: Global,
+    table: &Table,
+    workers: u32,
+    summary: Summary,
+) -> Result<bool, OutOfMemory> {
+    let planned = plan_table(rt, alloc, &two_neighbours(alloc)?, table, workers)?;
     let said = Checked::Accepted(summary.rules);
     Ok(Summary::of(&planned) == summary && is_said(alloc, table, &planned, said)?)
 }
@@ -127,13 +134,13 @@ fn plans_are_accepted(rt: HostRuntime) -> Result<(), Fail> {
         indistinguishable: 1,
         overlap: 0,
     };
-    assert!(rt; plans(alloc, &nested(alloc)?, summary)?);
+    assert!(rt; plans(&rt, alloc, &nested(alloc)?, 1, summary)?);
     let summary = Summary {
         rules: 2,
         probes: 0,
         indistinguishable: 0,
         overlap: 2,
     };
-    assert!(rt; plans(alloc, &crossed(alloc)?, summary)?);
+    assert!(rt; plans(&rt, alloc, &crossed(alloc)?, 8, summary)?);
     Ok(())
 }
