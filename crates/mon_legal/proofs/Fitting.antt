@@ -220,7 +220,7 @@ EndFits (Some due) = ⊥
 
 abbrev pub Fits : Run → ℕ → List Own → Own → Type 0
 Fits run s before (Sends to frame lost) = first_due (owed run s before) ≡ Some (Frame to frame)
-Fits run s before (Goes_out serial) = first_due (owed run s before) ≡ Some (Going serial)
+Fits run s before (Goes_out serial near frame) = first_due (owed run s before) ≡ Some (Going serial)
 Fits run s before (Reports line) = first_due (owed run s before) ≡ Some (Tells line)
 Fits run s before (Probes serial edit version e shows) = (job : ℕ) × (k : ℕ) × (first_due (owed run s before) ≡ Some (Probing job k))
 Fits run s before Ends = EndFits (first_due (owed run s before))
@@ -668,11 +668,11 @@ over-end run s before parts r true fit =
     ]
 over-end run s before parts r false fit = over-append run s (only (r == s) (Ends ∷ [])) [] before (over-only run s before (r == s) Ends fit) tt
 
-over-went : (run : Run) (s r near serial : ℕ) (lost : Bool) (before : List Own) → ((r == s) ≡ true → first_due (owed run s before) ≡ Some (Going serial))
-    → FitsOver run s (only (near == s) (Carries lost ∷ []) ++ only (r == s) (Goes_out serial ∷ [])) before
-over-went run s r near serial lost before fit =
-    over-append run s (only (near == s) (Carries lost ∷ [])) (only (r == s) (Goes_out serial ∷ [])) before
-    (over-only run s (only (r == s) (Goes_out serial ∷ []) ++ before) (near == s) (Carries lost) (λ y. tt)) (over-only run s before (r == s) (Goes_out serial) fit)
+over-went : (run : Run) (s r near serial : ℕ) (frame : List ℕ) (lost : Bool) (before : List Own) → ((r == s) ≡ true → first_due (owed run s before) ≡ Some (Going serial))
+    → FitsOver run s (only (near == s) (Carries lost ∷ []) ++ only (r == s) (Goes_out serial near frame ∷ [])) before
+over-went run s r near serial frame lost before fit =
+    over-append run s (only (near == s) (Carries lost ∷ [])) (only (r == s) (Goes_out serial near frame ∷ [])) before
+    (over-only run s (only (r == s) (Goes_out serial near frame ∷ []) ++ before) (near == s) (Carries lost) (λ y. tt)) (over-only run s before (r == s) (Goes_out serial near frame) fit)
 
 fits-one : (run : Run) (s : ℕ) (f : List Moment) (m : Moment) → FramesGoInOrder run f → NoteStands run f m → Comes run f (next run f) m
     → FitsOver run s (own run (parts_of run f) s f m) (part run s f)
@@ -707,8 +707,8 @@ fits-one run s f (Is (End r)) order stands c =
     (over-end run s (part run s f) (parts_of run f) r (is_armed (part run r f))
     (λ y. subst (λ (q : ℕ). EndFits (due_of run f q)) (same-of r s y) (ends-fit run f (next run f) r refl c)))
 fits-one run s f (Went r serial near frame lost) order stands c =
-    over-open run s (part run s f) (parts_of run f) (only (near == s) (Carries lost ∷ []) ++ only (r == s) (Goes_out serial ∷ []))
-    (over-went run s r near serial lost (part run s f)
+    over-open run s (part run s f) (parts_of run f) (only (near == s) (Carries lost ∷ []) ++ only (r == s) (Goes_out serial near frame ∷ []))
+    (over-went run s r near serial frame lost (part run s f)
     (λ y. fits-at run s r f (Going serial) (comes-went run f (next run f) r serial near frame lost c) (same-of r s y)))
 fits-one run s f (Came r side frame) order stands c =
     let q = quiet-at run s f (Came r side frame) refl c in

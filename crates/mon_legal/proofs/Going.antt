@@ -131,7 +131,7 @@ sent-asked to run s (Sends Switch frame lost ∷ before) fit =
     let os = owes run s (owed run s before) before (Sends Switch frame lost) in
     ap (λ (xs : List (List ℕ)). xs ++ frames_due to (os ++ drop 1 (owed run s before))) (with-only (same_side Switch to) (sent to before) frame)
     ∙ asks to run s before frame lost (sent to before) (asked to run s before) fit.1 fit.0 (sent-asked to run s before fit.1)
-sent-asked to run s (Goes_out serial ∷ before) fit =
+sent-asked to run s (Goes_out serial near frame ∷ before) fit =
     one-none to (sent to before) (asked to run s before) (Going serial) (owed run s before) fit.0 refl (sent-asked to run s before fit.1)
 sent-asked to run s (Reports line ∷ before) fit =
     one-none to (sent to before) (asked to run s before) (Tells line) (owed run s before) fit.0 refl (sent-asked to run s before fit.1)

@@ -131,8 +131,8 @@ silent-own run s f (Is (End r)) e =
     silent-open (parts_of run f) s (only (r == s) (Ends ∷ []) ++ neighbour_if run (parts_of run f) s r (is_armed (part run r f)))
     (silent-append (only (r == s) (Ends ∷ [])) _ (silent-only (r == s) Ends refl) (silent-neighbour run (parts_of run f) s r (is_armed (part run r f))))
 silent-own run s f (Went r serial near frame lost) e =
-    silent-open (parts_of run f) s (only (near == s) (Carries lost ∷ []) ++ only (r == s) (Goes_out serial ∷ []))
-    (silent-append (only (near == s) (Carries lost ∷ [])) _ (silent-only (near == s) (Carries lost) refl) (silent-only (r == s) (Goes_out serial) refl))
+    silent-open (parts_of run f) s (only (near == s) (Carries lost ∷ []) ++ only (r == s) (Goes_out serial near frame ∷ []))
+    (silent-append (only (near == s) (Carries lost ∷ [])) _ (silent-only (near == s) (Carries lost) refl) (silent-only (r == s) (Goes_out serial near frame) refl))
 silent-own run s f (Came r side frame) e = absurd (false≢true (sym e))
 silent-own run s f (Broke r side fault) e = silent-open (parts_of run f) s (only (r == s) (Breaks fault ∷ [])) (silent-only (r == s) (Breaks fault) refl)
 silent-own run s f (Did r act) e = silent-open (parts_of run f) s (only (r == s) (Acts act ∷ [])) (silent-only (r == s) (Acts act) refl)

@@ -217,7 +217,7 @@ owes run s dues before o = []
 -- an entry that meets what is due
 abbrev pub is_output : Own → Bool
 is_output (Probes serial k version emission shows) = true
-is_output (Goes_out serial) = true
+is_output (Goes_out serial near frame) = true
 is_output (Sends to frame lost) = true
 is_output (Reports line) = true
 is_output Ends = true

@@ -52,8 +52,8 @@ pub data Own : Type 0 where
   Offers : (job edit : ℕ) → Own
   -- an answer becomes the probe of a serial, which is to show this
   Probes : (serial edit version : ℕ) (emission : Emission) (shows : Option Seen) → Own
-  -- the probe of a serial goes out, at a neighbour
-  Goes_out : (serial : ℕ) → Own
+  -- the probe of a serial goes out, to the switch of a session nearby, in this frame
+  Goes_out : (serial near : ℕ) (frame : List ℕ) → Own
   -- a frame is output to a side, or lost: one of the session's own to its controller or its switch, or a probe for a neighbour
   -- to its switch
   Sends : (to : Side) (frame : List ℕ) (lost : Bool) → Own

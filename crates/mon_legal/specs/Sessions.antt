@@ -288,7 +288,7 @@ of_frame true run parts r f Switch frame =
 -- what else a session sees while it is open, the newest first: a return is seen after the frame that brings it
 abbrev pub sees : Run → Parts → ℕ → List Moment → Moment → List Own
 sees run parts s f (Is entry) = of_entry run parts s f entry
-sees run parts s f (Went r serial near frame lost) = only (near == s) (Carries lost ∷ []) ++ only (r == s) (Goes_out serial ∷ [])
+sees run parts s f (Went r serial near frame lost) = only (near == s) (Carries lost ∷ []) ++ only (r == s) (Goes_out serial near frame ∷ [])
 sees run parts s f (Came r side frame) =
     neighbour_if run parts s r (arms parts r side frame) ++ (returned run parts r side frame ++ of_frame (r == s) run parts r f side frame)
 sees run parts s f (Broke r side fault) = only (r == s) (Breaks fault ∷ [])

@@ -13,11 +13,11 @@ use Rattle.mon_report.specs.declared.line.WatchWhat.{WatchWhat}
 use Rattle.mon_world.specs.declared.event.Side.TheVariants.{Switch}
 use Rattle.mon_legal.specs.Runs.{Run}
 use Rattle.mon_legal.specs.Owns.{Own}
-use Rattle.mon_legal.specs.Owns.Own.{Ticks, Judged, Offers, Probes, Sends, Reports}
+use Rattle.mon_legal.specs.Owns.Own.{Ticks, Judged, Offers, Probes, Goes_out, Sends, Reports}
 use Rattle.mon_legal.specs.Barriers.{is_armed, edit_out}
 use Rattle.mon_legal.specs.Rounds.{next_rule}
 use Rattle.mon_legal.specs.Edits.{Passed, entries, unsettled, matches_of}
-use Rattle.mon_legal.specs.Probes.{Probe, Live, is_seen}
+use Rattle.mon_legal.specs.Probes.{Probe, Live, just_live, sent_out, is_seen}
 
 -- the watch --------------------------------------------------------------------
 
@@ -71,11 +71,21 @@ and_then None f = None
 and_then (Some w) f = f w
 
 abbrev pub with_probe : Probe → Watch → Option Watch
-with_probe p w = Some (record w { probe = Some (record { probe = p; ticks = 0 }); age = 0 })
+with_probe p w = Some (record w { probe = Some (just_live p); age = 0 })
+
+abbrev pub out_if : ℕ → ℕ → List ℕ → Option Live → Option Live
+out_if serial near frame None = None
+out_if serial near frame (Some l) = Some (sent_out serial near frame l)
+
+abbrev pub gone_out : ℕ → ℕ → List ℕ → Watch → Option Watch
+gone_out serial near frame w = Some (record w { probe = out_if serial near frame w.probe })
 
 abbrev pub probed_if : Bool → Probe → Watching → Watching
 probed_if true p w = record w { watch = and_then w.watch (with_probe p) }
 probed_if false p w = w
+
+abbrev pub carried : ℕ → ℕ → List ℕ → Watching → Watching
+carried serial near frame w = record w { watch = and_then w.watch (gone_out serial near frame) }
 
 abbrev pub begun_if : Bool → ℕ → List Rule → List Passed → Watching → Watching
 begun_if true job t edits w = begun job (next_rule w.last t (matches_of edits)) w
@@ -107,6 +117,7 @@ watching run (Offers job edit ∷ before) = begun_if (edit == 0) job (entries be
 watching run (Judged job edit kind fresh ∷ before) = judged_if (edit == 0) job fresh (watching run before)
 watching run (Probes serial edit version emission shows ∷ before) =
     probed_if (edit == 0) (record { serial = serial; edit = edit; version = version; emission = emission; shows = shows }) (watching run before)
+watching run (Goes_out serial near frame ∷ before) = carried serial near frame (watching run before)
 watching run (Sends Switch frame lost ∷ before) = overrun (edit_out before) (watching run before)
 watching run (Ticks version ∷ before) = at_tick run version (is_armed before) (watching run before)
 watching run (Reports line ∷ before) = without_watch line (watching run before)
