@@ -83,28 +83,27 @@ rest-takes s act (Some p) y rest n e = absurd (false≢true (ap is_takes e))
 rest-takes s act None (Some q) rest n e = (q, refl, ap taker e, some-same q.1 act (ap taken e))
 rest-takes s act None None rest n e = absurd (false≢true (sym n ∙ ap is_takes e))
 
-or-takes : (a : Option Next) (b : Next) → ((n : Next) → a ≡ Some n → is_takes n ≡ false) → is_takes b ≡ false → is_takes (or_next a b) ≡ false
-or-takes None b f n = n
-or-takes (Some m) b f n = f m refl
+-- a thing of a kind of which none passes a test doesn't pass it
+pub or-none : (test : Next → Bool) (a : Option Next) (b : Next) → ((n : Next) → a ≡ Some n → test n ≡ false) → test b ≡ false → test (or_next a b) ≡ false
+or-none test None b f n = n
+or-none test (Some m) b f n = f m refl
 
-frames-take : (s : ℕ) (side : Side) (f : List Moment) (a : Option (List ℕ)) (b : Option FrameFault) (n : Next) → rest_of_frames s side f a b ≡ Some n → is_takes n ≡ false
-frames-take s side f (Some frame) b n e = sym (ap is_takes (some-same _ n e))
-frames-take s side f None (Some fault) n e = sym (ap is_takes (some-same _ n e))
-frames-take s side f None None n e = absurd (let g : None ≡ Some n = e in cc)
+pub made-none : {A : Type 0} (test : Next → Bool) (make : A → Next) → ((p : A) → test (make p) ≡ false) → (o : Option A) (n : Next) → option_map make o ≡ Some n → test n ≡ false
+made-none test make f None n e = absurd (let g : None ≡ Some n = e in cc)
+made-none test make f (Some p) n e = sym (ap test (some-same (make p) n e)) ∙ f p
 
-loses-take : (o : Option (ℕ × Unit {0})) (n : Next) → option_map (λ p. Loses p.0) o ≡ Some n → is_takes n ≡ false
-loses-take None n e = absurd (let g : None ≡ Some n = e in cc)
-loses-take (Some p) n e = sym (ap is_takes (some-same (Loses p.0) n e))
+frames-none : (test : Next → Bool) → ((s : ℕ) (side : Side) (frame : List ℕ) → test (Handles s side frame) ≡ false) → ((s : ℕ) (side : Side) (fault : FrameFault) → test (Breaks_off s side fault) ≡ false)
+    → (s : ℕ) (side : Side) (f : List Moment) (a : Option (List ℕ)) (b : Option FrameFault) (n : Next) → rest_of_frames s side f a b ≡ Some n → test n ≡ false
+frames-none test handles breaks s side f (Some frame) b n e = sym (ap test (some-same _ n e)) ∙ handles s side frame
+frames-none test handles breaks s side f None (Some fault) n e = sym (ap test (some-same _ n e)) ∙ breaks s side fault
+frames-none test handles breaks s side f None None n e = absurd (let g : None ≡ Some n = e in cc)
 
-wants-take : (o : Option (ℕ × ℕ)) (n : Next) → option_map (λ p. Wants p.0 p.1) o ≡ Some n → is_takes n ≡ false
-wants-take None n e = absurd (let g : None ≡ Some n = e in cc)
-wants-take (Some p) n e = sym (ap is_takes (some-same (Wants p.0 p.1) n e))
-
-piece-take : (run : Run) (f : List Moment) (o : Option (ℕ × Side)) (n : Next) → rest_of_piece run f o ≡ Some n → is_takes n ≡ false
-piece-take run f None n e = absurd (let g : None ≡ Some n = e in cc)
-piece-take run f (Some p) n e =
-    elim (is_open (part run p.0 f)) as (λ b. cond b (rest_of_frames p.0 p.1 f (next_frame run p.0 p.1 f) (fault_in run p.0 p.1 f)) None ≡ Some n → is_takes n ≡ false) [
-      | true ↦ λ g. frames-take p.0 p.1 f (next_frame run p.0 p.1 f) (fault_in run p.0 p.1 f) n g
+pub piece-none : (test : Next → Bool) → ((s : ℕ) (side : Side) (frame : List ℕ) → test (Handles s side frame) ≡ false) → ((s : ℕ) (side : Side) (fault : FrameFault) → test (Breaks_off s side fault) ≡ false)
+    → (run : Run) (f : List Moment) (o : Option (ℕ × Side)) (n : Next) → rest_of_piece run f o ≡ Some n → test n ≡ false
+piece-none test handles breaks run f None n e = absurd (let g : None ≡ Some n = e in cc)
+piece-none test handles breaks run f (Some p) n e =
+    elim (is_open (part run p.0 f)) as (λ b. cond b (rest_of_frames p.0 p.1 f (next_frame run p.0 p.1 f) (fault_in run p.0 p.1 f)) None ≡ Some n → test n ≡ false) [
+      | true ↦ λ g. frames-none test handles breaks p.0 p.1 f (next_frame run p.0 p.1 f) (fault_in run p.0 p.1 f) n g
       | false ↦ λ g. absurd (let h : None ≡ Some n = g in cc)
     ] e
 
@@ -113,9 +112,9 @@ unfolding next
 next-takes run f s act e =
     let all = opened run f in
     let q = rest-takes s act (first_with (due_of run f) all) (first_with (act_of run f) all) _
-    (or-takes (option_map (λ p. Loses p.0) (first_with (lost_of run f) all)) _ (loses-take (first_with (lost_of run f) all))
-    (or-takes (rest_of_piece run f (piece_of f)) _ (piece-take run f (piece_of f))
-    (or-takes (option_map (λ p. Wants p.0 p.1) (first_with (want_of run f) all)) Nothing (wants-take (first_with (want_of run f) all)) refl))) e in
+    (or-none is_takes (option_map (λ p. Loses p.0) (first_with (lost_of run f) all)) _ (made-none is_takes (λ (p : ℕ × Unit {0}). Loses p.0) (λ p. refl) (first_with (lost_of run f) all))
+    (or-none is_takes (rest_of_piece run f (piece_of f)) _ (piece-none is_takes (λ r side frame. refl) (λ r side fault. refl) run f (piece_of f))
+    (or-none is_takes (option_map (λ p. Wants p.0 p.1) (first_with (want_of run f) all)) Nothing (made-none is_takes (λ (p : ℕ × ℕ). Wants p.0 p.1) (λ p. refl) (first_with (want_of run f) all)) refl))) e in
     let there : act_of run f q.0.0 ≡ Some q.0.1 = first-has (act_of run f) all q.0 q.1 in
     subst (λ (r : ℕ). act_of run f r ≡ Some act) q.2 (there ∙ ap Some q.3)
 

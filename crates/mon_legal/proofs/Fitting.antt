@@ -6,7 +6,6 @@ use Rattle.std.proofs.lemmas.Bool.{false≢true}
 use Rattle.std.proofs.lemmas.Bool.Decides.{eqb_tells}
 use Rattle.std.proofs.lemmas.List.{append_assoc}
 use Rattle.of_frame.specs.Header.{kind_of}
-use Rattle.of_frame.specs.declared.fault.FrameFault.{FrameFault}
 use Rattle.mon_header.specs.declared.header.Header.{Header}
 use Rattle.mon_outcome.specs.declared.emission.Emission.{Emission}
 use Rattle.mon_packet.specs.declared.nonce.Nonce.{Nonce}
@@ -35,11 +34,11 @@ use Rattle.mon_legal.specs.Moments.{Moment}
 use Rattle.mon_legal.specs.Moments.Moment.{Is, Went, Came, Broke, Did}
 use Rattle.mon_legal.specs.Jobs.{Job, job_of, openings, last_job, last_serial}
 use Rattle.mon_legal.specs.Sessions.{Parts, part, parts_of, is_open, opened, view, own, sees, if_open, next_slot, neighbour_if, returned, returns_in, returns_with, of_frame, others_if, open_with_slot, arms, session_in, judged_as, judged_if, probed_as, probed_if, are_linked, version, hears}
-use Rattle.mon_legal.specs.Ordering.{Next, next, first_with, or_next, due_of, act_of, lost_of, want_of, rest_of_piece, rest_of_frames, piece_of, next_frame, fault_in, first_due}
+use Rattle.mon_legal.specs.Ordering.{Next, next, first_with, or_next, due_of, act_of, lost_of, want_of, rest_of_piece, piece_of, first_due}
 use Rattle.mon_legal.specs.Ordering.Next.{Meets, Takes, Loses, Handles, Breaks_off, Wants, Nothing}
 use Rattle.mon_legal.specs.Passing.{IsMet, Comes, FramesGoInOrder}
 use Rattle.mon_legal.specs.Probing.{ProbesSeparate, NoteStands, JustAnswered}
-use Rattle.mon_legal.proofs.Coming.{did-is-due, first-has, first-none, some-same}
+use Rattle.mon_legal.proofs.Coming.{did-is-due, first-has, first-none, some-same, or-none, made-none, piece-none}
 use Rattle.mon_barriers.specs.declared.barriers.Asker.TheVariants as asker
 use Rattle.mon_world.specs.declared.event.Kind.TheVariants as kind
 use Rattle.mon_report.specs.declared.line.What.TheVariants as what
@@ -99,35 +98,6 @@ none-due : (run : Run) (f : List Moment) → is_meets (next run f) ≡ false →
 unfolding next
 none-due run f e = rest-quiet (first_with (due_of run f) (opened run f)) _ e
 
-or-unmet : (a : Option Next) (b : Next) → ((n : Next) → a ≡ Some n → is_meets n ≡ false) → is_meets b ≡ false → is_meets (or_next a b) ≡ false
-or-unmet None b f n = n
-or-unmet (Some m) b f n = f m refl
-
-takes-unmet : (o : Option (ℕ × Act)) (n : Next) → option_map (λ p. Takes p.0 p.1) o ≡ Some n → is_meets n ≡ false
-takes-unmet None n e = absurd (let g : None ≡ Some n = e in cc)
-takes-unmet (Some p) n e = sym (ap is_meets (some-same (Takes p.0 p.1) n e))
-
-loses-unmet : (o : Option (ℕ × Unit {0})) (n : Next) → option_map (λ p. Loses p.0) o ≡ Some n → is_meets n ≡ false
-loses-unmet None n e = absurd (let g : None ≡ Some n = e in cc)
-loses-unmet (Some p) n e = sym (ap is_meets (some-same (Loses p.0) n e))
-
-wants-unmet : (o : Option (ℕ × ℕ)) (n : Next) → option_map (λ p. Wants p.0 p.1) o ≡ Some n → is_meets n ≡ false
-wants-unmet None n e = absurd (let g : None ≡ Some n = e in cc)
-wants-unmet (Some p) n e = sym (ap is_meets (some-same (Wants p.0 p.1) n e))
-
-frames-unmet : (s : ℕ) (side : Side) (f : List Moment) (a : Option (List ℕ)) (b : Option FrameFault) (n : Next) → rest_of_frames s side f a b ≡ Some n → is_meets n ≡ false
-frames-unmet s side f (Some frame) b n e = sym (ap is_meets (some-same _ n e))
-frames-unmet s side f None (Some fault) n e = sym (ap is_meets (some-same _ n e))
-frames-unmet s side f None None n e = absurd (let g : None ≡ Some n = e in cc)
-
-piece-unmet : (run : Run) (f : List Moment) (o : Option (ℕ × Side)) (n : Next) → rest_of_piece run f o ≡ Some n → is_meets n ≡ false
-piece-unmet run f None n e = absurd (let g : None ≡ Some n = e in cc)
-piece-unmet run f (Some p) n e =
-    elim (is_open (part run p.0 f)) as (λ b. cond b (rest_of_frames p.0 p.1 f (next_frame run p.0 p.1 f) (fault_in run p.0 p.1 f)) None ≡ Some n → is_meets n ≡ false) [
-      | true ↦ λ g. frames-unmet p.0 p.1 f (next_frame run p.0 p.1 f) (fault_in run p.0 p.1 f) n g
-      | false ↦ λ g. absurd (let h : None ≡ Some n = g in cc)
-    ] e
-
 abbrev meeter : Next → ℕ
 meeter (Meets s due) = s
 meeter n = 0
@@ -147,10 +117,10 @@ unfolding next
 next-meets run f s due e =
     let all = opened run f in
     let q = rest-meets s due (first_with (due_of run f) all) _
-    (or-unmet (option_map (λ p. Takes p.0 p.1) (first_with (act_of run f) all)) _ (takes-unmet (first_with (act_of run f) all))
-    (or-unmet (option_map (λ p. Loses p.0) (first_with (lost_of run f) all)) _ (loses-unmet (first_with (lost_of run f) all))
-    (or-unmet (rest_of_piece run f (piece_of f)) _ (piece-unmet run f (piece_of f))
-    (or-unmet (option_map (λ p. Wants p.0 p.1) (first_with (want_of run f) all)) Nothing (wants-unmet (first_with (want_of run f) all)) refl)))) e in
+    (or-none is_meets (option_map (λ p. Takes p.0 p.1) (first_with (act_of run f) all)) _ (made-none is_meets (λ (p : ℕ × Act). Takes p.0 p.1) (λ p. refl) (first_with (act_of run f) all))
+    (or-none is_meets (option_map (λ p. Loses p.0) (first_with (lost_of run f) all)) _ (made-none is_meets (λ (p : ℕ × Unit {0}). Loses p.0) (λ p. refl) (first_with (lost_of run f) all))
+    (or-none is_meets (rest_of_piece run f (piece_of f)) _ (piece-none is_meets (λ r side frame. refl) (λ r side fault. refl) run f (piece_of f))
+    (or-none is_meets (option_map (λ p. Wants p.0 p.1) (first_with (want_of run f) all)) Nothing (made-none is_meets (λ (p : ℕ × ℕ). Wants p.0 p.1) (λ p. refl) (first_with (want_of run f) all)) refl)))) e in
     let there : due_of run f q.0.0 ≡ Some q.0.1 = first-has (due_of run f) all q.0 q.1 in
     subst (λ (r : ℕ). due_of run f r ≡ Some due) q.2 (there ∙ ap Some q.3)
 

@@ -21,7 +21,7 @@ use Rattle.mon_legal.specs.Sides.{from_controller, from_switch, IsFront}
 use Rattle.mon_legal.specs.Sessions.{Parts, judged_if, probed_if, part, parts_of, is_open, own, sees, arms, if_open, judged_as, neighbour_if, next_slot, of_frame, probed_as, returned, returns_in, returns_with, session_in, has_ended, opened, version, hears}
 use Rattle.mon_legal.specs.Ordering.{stream, frames_in, fault_in, handled, next_frame, with_bytes, is_there, rest_of_piece, rest_of_frames, piece_of, same_side, Next, act_of, due_of, first_with, lost_of, next, or_next, want_of}
 use Rattle.mon_legal.proofs.Fitting.{same-of, hears-none}
-use Rattle.mon_legal.proofs.Coming.{some-same, is_nothing}
+use Rattle.mon_legal.proofs.Coming.{some-same, is_nothing, piece-none}
 use Rattle.mon_world.specs.declared.event.Side.TheVariants.{Controller, Switch}
 use Rattle.mon_legal.specs.Barriers.{is_armed}
 use Rattle.mon_legal.specs.Moments.Moment.{Broke, Came, Did, Is, Went}
@@ -411,25 +411,12 @@ rest-of-nothing None None (Some p) a rest e k = absurd (false≢true e)
 rest-of-nothing None None None (Some n) rest e k = absurd (false≢true (sym (k n refl) ∙ e))
 rest-of-nothing None None None None rest e k = refl
 
-frames-something : (s : ℕ) (side : Side) (f : List Moment) (a : Option (List ℕ)) (b : Option FrameFault) (n : Next) → rest_of_frames s side f a b ≡ Some n → is_nothing n ≡ false
-frames-something s side f (Some frame) b n e = sym (ap is_nothing (some-same _ n e))
-frames-something s side f None (Some fault) n e = sym (ap is_nothing (some-same _ n e))
-frames-something s side f None None n e = absurd (let g : None ≡ Some n = e in cc)
-
-pub piece-something : (run : Run) (f : List Moment) (o : Option (ℕ × Side)) (n : Next) → rest_of_piece run f o ≡ Some n → is_nothing n ≡ false
-piece-something run f None n e = absurd (let g : None ≡ Some n = e in cc)
-piece-something run f (Some p) n e =
-    elim (is_open (part run p.0 f)) as (λ b. cond b (rest_of_frames p.0 p.1 f (next_frame run p.0 p.1 f) (fault_in run p.0 p.1 f)) None ≡ Some n → is_nothing n ≡ false) [
-      | true ↦ λ g. frames-something p.0 p.1 f (next_frame run p.0 p.1 f) (fault_in run p.0 p.1 f) n g
-      | false ↦ λ g. absurd (let h : None ≡ Some n = g in cc)
-    ] e
-
 pub piece-done : (run : Run) (f : List Moment) → next run f ≡ Nothing → rest_of_piece run f (piece_of f) ≡ None
 unfolding next
 piece-done run f e =
     let all = opened run f in
     rest-of-nothing (first_with (due_of run f) all) (first_with (act_of run f) all) (first_with (lost_of run f) all) (rest_of_piece run f (piece_of f)) _
-    (ap is_nothing e) (piece-something run f (piece_of f))
+    (ap is_nothing e) (piece-none is_nothing (λ r side frame. refl) (λ r side fault. refl) run f (piece_of f))
 
 no-frame : (s : ℕ) (side : Side) (f : List Moment) (a : Option (List ℕ)) (b : Option FrameFault) → rest_of_frames s side f a b ≡ None → a ≡ None
 no-frame s side f (Some frame) b e = absurd (let g : Some (Handles s side frame) ≡ None = e in cc)

@@ -1,3 +1,4 @@
+pub mod Computed
 pub mod OrderStands
 pub mod SessionsStand
 pub mod TicksStand
@@ -7,6 +8,7 @@ pub mod TruthsStand
 pub mod ConfirmationsStand
 pub mod WatchesStand
 pub mod Ordinary
+pub mod Samples
 pub mod TieRow
 pub mod LostRow
 pub mod RejectionRow

@@ -1,334 +1,59 @@
 -- An update that the switch lost: its probe shows the lower rule, goes out again, and the update is reported as silent.
-use Rattle.std.specs.Prelude.{◌≡◌, ℕ, true, false, List, [], ◌∷◌, Some, None, refl}
-use Rattle.of_frame.specs.Cut as Cutting
-use Rattle.of_msgs.specs.ReadMods as Mods
-use Rattle.of_match.specs.Layout as Matches
-use Rattle.mon_header.specs.Wild as Wild
-use Rattle.mon_header.specs.Matching as Matching
-use Rattle.mon_header.specs.Order as Order
-use Rattle.mon_header.specs.Same as Same
-use Rattle.mon_table.specs.Rules as Rules
-use Rattle.mon_table.specs.Tables as Tables
-use Rattle.mon_table.specs.Edits as TableEdits
-use Rattle.mon_packet.specs.Reading as Reading
-use Rattle.of_action.specs.Reading as ActionBytes
-use Rattle.mon_legal.specs.Ordering.Next.{Nothing}
-use Rattle.mon_header.specs.declared.header.Header.{Header}
-use Rattle.mon_outcome.specs.declared.emission.Emission.{Emission}
-use Rattle.mon_outcome.specs.declared.emission.Emission.TheVariants.{Port, Controller as To_controller}
-use Rattle.mon_report.specs.declared.line.Line.TheVariants.{Confirmed, Fact}
-use Rattle.mon_report.specs.declared.line.What.TheVariants as what
-use Rattle.mon_world.specs.declared.event.Side.TheVariants.{Controller, Switch}
-use Rattle.mon_world.specs.declared.event.Event.TheVariants.{Piece, Answer, Tick}
-use Rattle.mon_world.specs.declared.event.Note.TheVariants.{Offer, Verdict, Probe, Report}
-use Rattle.mon_world.specs.declared.event.Kind.TheVariants as kind
-use Rattle.mon_world.specs.declared.history.Entry.TheVariants.{Given, Noted, Put}
-use Rattle.mon_legal.specs.Owns.Act.{Plan, Step}
-use Rattle.mon_legal.specs.Moments.{Moment}
-use Rattle.mon_legal.specs.Moments.Moment.{Is, Went, Came, Did}
-use Rattle.mon_legal.specs.Ordering.{next}
-use Rattle.mon_legal.specs.Directly.{on_switch}
-use Rattle.mon_legal.specs.Passing.{FramesGoInOrder}
-use Rattle.mon_legal.specs.Story.{run, request, reply, at_45}
-use Rattle.mon_legal.proofs.OrderStands as Armed_first
+use Rattle.std.specs.Prelude.{◌≡◌, ℕ, true, false, List, [], ◌∷◌, ◌++◌, Option, Some, None, refl}
 use Rattle.mon_header.specs.declared.action.Action.TheVariants.{Output}
 use Rattle.mon_table.specs.declared.rule.Rule.{Rule}
 use Rattle.mon_table.specs.declared.edit.Edit.TheVariants as edit
-
-abbrev pub header : Header
-header = record { in_port = 1; dl_src = 2199023255553; dl_dst = 2199023255554; dl_vlan = 100; dl_vlan_pcp = 0; dl_type = 2048; nw_tos = 0; nw_proto = 255; nw_src = 167772169; nw_dst = 167772160; tp_src = 0; tp_dst = 0 }
-
-abbrev pub first : Emission
-first = To_controller header
-
-abbrev pub second : Emission
-second = Port 2 header
-
-abbrev pub addc : List ℕ
-addc = 1 ∷ 14 ∷ 0 ∷ 80 ∷ 0 ∷ 0 ∷ 0 ∷ 17 ∷ 0 ∷ 56 ∷ 32 ∷ 238 ∷ 0 ∷ 1 ∷ 0 ∷ 0 ∷ 0 ∷ 0 ∷ 0 ∷ 0 ∷ 0 ∷ 0 ∷ 0 ∷ 0 ∷ 0 ∷ 0 ∷ 0 ∷ 0 ∷ 0 ∷ 0 ∷ 8 ∷ 0 ∷ 0 ∷ 0 ∷ 0 ∷ 0 ∷ 0 ∷ 0 ∷ 0 ∷ 0 ∷ 0 ∷ 0 ∷ 0 ∷ 0 ∷ 0 ∷ 0 ∷ 0 ∷ 0 ∷ 0 ∷ 0 ∷ 0 ∷ 0 ∷ 0 ∷ 0 ∷ 0 ∷ 0 ∷ 0 ∷ 0 ∷ 0 ∷ 0 ∷ 0 ∷ 0 ∷ 0 ∷ 50 ∷ 255 ∷ 255 ∷ 255 ∷ 255 ∷ 255 ∷ 255 ∷ 0 ∷ 0 ∷ 0 ∷ 0 ∷ 0 ∷ 8 ∷ 255 ∷ 253 ∷ 255 ∷ 255 ∷ []
-
-abbrev pub add_and_request : List ℕ
-add_and_request = 1 ∷ 14 ∷ 0 ∷ 80 ∷ 0 ∷ 0 ∷ 0 ∷ 17 ∷ 0 ∷ 50 ∷ 32 ∷ 239 ∷ 0 ∷ 0 ∷ 0 ∷ 0 ∷ 0 ∷ 0 ∷ 0 ∷ 0 ∷ 0 ∷ 0 ∷ 0 ∷ 0 ∷ 0 ∷ 0 ∷ 0 ∷ 0 ∷ 0 ∷ 0 ∷ 8 ∷ 0 ∷ 0 ∷ 0 ∷ 0 ∷ 0 ∷ 0 ∷ 0 ∷ 0 ∷ 0 ∷ 10 ∷ 0 ∷ 0 ∷ 0 ∷ 0 ∷ 0 ∷ 0 ∷ 0 ∷ 0 ∷ 0 ∷ 0 ∷ 0 ∷ 0 ∷ 0 ∷ 0 ∷ 0 ∷ 0 ∷ 0 ∷ 0 ∷ 0 ∷ 0 ∷ 0 ∷ 0 ∷ 100 ∷ 255 ∷ 255 ∷ 255 ∷ 255 ∷ 255 ∷ 255 ∷ 0 ∷ 0 ∷ 0 ∷ 0 ∷ 0 ∷ 8 ∷ 0 ∷ 2 ∷ 0 ∷ 0 ∷ 1 ∷ 18 ∷ 0 ∷ 8 ∷ 0 ∷ 0 ∷ 0 ∷ 18 ∷ []
-
-abbrev pub add : List ℕ
-add = 1 ∷ 14 ∷ 0 ∷ 80 ∷ 0 ∷ 0 ∷ 0 ∷ 17 ∷ 0 ∷ 50 ∷ 32 ∷ 239 ∷ 0 ∷ 0 ∷ 0 ∷ 0 ∷ 0 ∷ 0 ∷ 0 ∷ 0 ∷ 0 ∷ 0 ∷ 0 ∷ 0 ∷ 0 ∷ 0 ∷ 0 ∷ 0 ∷ 0 ∷ 0 ∷ 8 ∷ 0 ∷ 0 ∷ 0 ∷ 0 ∷ 0 ∷ 0 ∷ 0 ∷ 0 ∷ 0 ∷ 10 ∷ 0 ∷ 0 ∷ 0 ∷ 0 ∷ 0 ∷ 0 ∷ 0 ∷ 0 ∷ 0 ∷ 0 ∷ 0 ∷ 0 ∷ 0 ∷ 0 ∷ 0 ∷ 0 ∷ 0 ∷ 0 ∷ 0 ∷ 0 ∷ 0 ∷ 0 ∷ 100 ∷ 255 ∷ 255 ∷ 255 ∷ 255 ∷ 255 ∷ 255 ∷ 0 ∷ 0 ∷ 0 ∷ 0 ∷ 0 ∷ 8 ∷ 0 ∷ 2 ∷ 0 ∷ 0 ∷ []
-
-abbrev pub out_1 : List ℕ
-out_1 = 1 ∷ 13 ∷ 0 ∷ 88 ∷ 77 ∷ 111 ∷ 110 ∷ 111 ∷ 255 ∷ 255 ∷ 255 ∷ 255 ∷ 255 ∷ 255 ∷ 0 ∷ 8 ∷ 0 ∷ 0 ∷ 0 ∷ 8 ∷ 0 ∷ 1 ∷ 0 ∷ 0 ∷ 2 ∷ 0 ∷ 0 ∷ 0 ∷ 0 ∷ 2 ∷ 2 ∷ 0 ∷ 0 ∷ 0 ∷ 0 ∷ 1 ∷ 129 ∷ 0 ∷ 0 ∷ 100 ∷ 8 ∷ 0 ∷ 69 ∷ 0 ∷ 0 ∷ 44 ∷ 0 ∷ 0 ∷ 0 ∷ 0 ∷ 64 ∷ 255 ∷ 101 ∷ 203 ∷ 10 ∷ 0 ∷ 0 ∷ 9 ∷ 10 ∷ 0 ∷ 0 ∷ 0 ∷ 77 ∷ 79 ∷ 78 ∷ 79 ∷ 67 ∷ 76 ∷ 69 ∷ 49 ∷ 0 ∷ 0 ∷ 0 ∷ 0 ∷ 0 ∷ 0 ∷ 0 ∷ 1 ∷ 0 ∷ 0 ∷ 0 ∷ 0 ∷ 0 ∷ 0 ∷ 0 ∷ 1 ∷ 0 ∷ 0 ∷ []
-
-abbrev pub in_1 : List ℕ
-in_1 = 1 ∷ 10 ∷ 0 ∷ 82 ∷ 0 ∷ 0 ∷ 0 ∷ 0 ∷ 255 ∷ 255 ∷ 255 ∷ 255 ∷ 0 ∷ 64 ∷ 0 ∷ 1 ∷ 1 ∷ 0 ∷ 2 ∷ 0 ∷ 0 ∷ 0 ∷ 0 ∷ 2 ∷ 2 ∷ 0 ∷ 0 ∷ 0 ∷ 0 ∷ 1 ∷ 129 ∷ 0 ∷ 0 ∷ 100 ∷ 8 ∷ 0 ∷ 69 ∷ 0 ∷ 0 ∷ 44 ∷ 0 ∷ 0 ∷ 0 ∷ 0 ∷ 64 ∷ 255 ∷ 101 ∷ 203 ∷ 10 ∷ 0 ∷ 0 ∷ 9 ∷ 10 ∷ 0 ∷ 0 ∷ 0 ∷ 77 ∷ 79 ∷ 78 ∷ 79 ∷ 67 ∷ 76 ∷ 69 ∷ 49 ∷ 0 ∷ 0 ∷ 0 ∷ 0 ∷ 0 ∷ 0 ∷ 0 ∷ 1 ∷ 0 ∷ 0 ∷ 0 ∷ 0 ∷ 0 ∷ 0 ∷ 0 ∷ 1 ∷ 0 ∷ 0 ∷ []
-
-abbrev pub out_2 : List ℕ
-out_2 = 1 ∷ 13 ∷ 0 ∷ 88 ∷ 77 ∷ 111 ∷ 110 ∷ 111 ∷ 255 ∷ 255 ∷ 255 ∷ 255 ∷ 255 ∷ 255 ∷ 0 ∷ 8 ∷ 0 ∷ 0 ∷ 0 ∷ 8 ∷ 0 ∷ 1 ∷ 0 ∷ 0 ∷ 2 ∷ 0 ∷ 0 ∷ 0 ∷ 0 ∷ 2 ∷ 2 ∷ 0 ∷ 0 ∷ 0 ∷ 0 ∷ 1 ∷ 129 ∷ 0 ∷ 0 ∷ 100 ∷ 8 ∷ 0 ∷ 69 ∷ 0 ∷ 0 ∷ 44 ∷ 0 ∷ 0 ∷ 0 ∷ 0 ∷ 64 ∷ 255 ∷ 101 ∷ 203 ∷ 10 ∷ 0 ∷ 0 ∷ 9 ∷ 10 ∷ 0 ∷ 0 ∷ 0 ∷ 77 ∷ 79 ∷ 78 ∷ 79 ∷ 67 ∷ 76 ∷ 69 ∷ 49 ∷ 0 ∷ 0 ∷ 0 ∷ 0 ∷ 0 ∷ 0 ∷ 0 ∷ 1 ∷ 0 ∷ 0 ∷ 0 ∷ 0 ∷ 0 ∷ 0 ∷ 0 ∷ 2 ∷ 0 ∷ 0 ∷ []
-
-abbrev pub in_2 : List ℕ
-in_2 = 1 ∷ 10 ∷ 0 ∷ 82 ∷ 0 ∷ 0 ∷ 0 ∷ 0 ∷ 255 ∷ 255 ∷ 255 ∷ 255 ∷ 0 ∷ 64 ∷ 0 ∷ 1 ∷ 1 ∷ 0 ∷ 2 ∷ 0 ∷ 0 ∷ 0 ∷ 0 ∷ 2 ∷ 2 ∷ 0 ∷ 0 ∷ 0 ∷ 0 ∷ 1 ∷ 129 ∷ 0 ∷ 0 ∷ 100 ∷ 8 ∷ 0 ∷ 69 ∷ 0 ∷ 0 ∷ 44 ∷ 0 ∷ 0 ∷ 0 ∷ 0 ∷ 64 ∷ 255 ∷ 101 ∷ 203 ∷ 10 ∷ 0 ∷ 0 ∷ 9 ∷ 10 ∷ 0 ∷ 0 ∷ 0 ∷ 77 ∷ 79 ∷ 78 ∷ 79 ∷ 67 ∷ 76 ∷ 69 ∷ 49 ∷ 0 ∷ 0 ∷ 0 ∷ 0 ∷ 0 ∷ 0 ∷ 0 ∷ 1 ∷ 0 ∷ 0 ∷ 0 ∷ 0 ∷ 0 ∷ 0 ∷ 0 ∷ 2 ∷ 0 ∷ 0 ∷ []
-
-abbrev pub rule_of_addc : Rule
-rule_of_addc = record { matching = record { wild = record { in_port = false; dl_vlan = true; dl_src = true; dl_dst = true; dl_type = false; nw_proto = true; tp_src = true; tp_dst = true; nw_src = 32; nw_dst = 32; dl_vlan_pcp = true; nw_tos = true }; fields = record { in_port = 1; dl_src = 0; dl_dst = 0; dl_vlan = 0; dl_vlan_pcp = 0; dl_type = 2048; nw_tos = 0; nw_proto = 0; nw_src = 0; nw_dst = 0; tp_src = 0; tp_dst = 0 } }; priority = 50; actions = Output 65533 65535 ∷ []; unsure = false }
-
-abbrev pub rule_of_add : Rule
-rule_of_add = record { matching = record { wild = record { in_port = true; dl_vlan = true; dl_src = true; dl_dst = true; dl_type = false; nw_proto = true; tp_src = true; tp_dst = true; nw_src = 32; nw_dst = 8; dl_vlan_pcp = true; nw_tos = true }; fields = record { in_port = 0; dl_src = 0; dl_dst = 0; dl_vlan = 0; dl_vlan_pcp = 0; dl_type = 2048; nw_tos = 0; nw_proto = 0; nw_src = 0; nw_dst = 167772160; tp_src = 0; tp_dst = 0 } }; priority = 100; actions = Output 2 0 ∷ []; unsure = false }
-
-abbrev pub row_0 : List Moment
-row_0 = at_45
-
-abbrev pub row_1 : List Moment
-row_1 = Is (Given (Piece 0 Controller addc)) ∷ row_0
-
-abbrev pub row_2 : List Moment
-row_2 = Came 0 Controller addc ∷ row_1
-
-abbrev pub row_3 : List Moment
-row_3 = Did 0 (Plan addc) ∷ row_2
-
-abbrev pub row_4 : List Moment
-row_4 = Did 0 (Step Switch addc (Some (record { edit = edit.Put rule_of_addc None; closing = None }))) ∷ row_3
-
-abbrev pub row_5 : List Moment
-row_5 = Is (Put 0 Switch addc false) ∷ row_4
-
-abbrev pub row_6 : List Moment
-row_6 = Is (Noted (Offer 1 0 1 4)) ∷ row_5
-
-abbrev pub row_7 : List Moment
-row_7 = Is (Given (Answer 0)) ∷ row_6
-
-abbrev pub row_8 : List Moment
-row_8 = Is (Noted (Verdict 1 kind.Probe)) ∷ row_7
-
-abbrev pub row_9 : List Moment
-row_9 = Is (Noted (Probe 1 1 first)) ∷ row_8
-
-abbrev pub row_10 : List Moment
-row_10 = Went 0 1 1 out_1 false ∷ row_9
-
-abbrev pub row_11 : List Moment
-row_11 = Is (Given (Piece 0 Switch in_1)) ∷ row_10
-
-abbrev pub row_12 : List Moment
-row_12 = Came 0 Switch in_1 ∷ row_11
-
-abbrev pub row_13 : List Moment
-row_13 = Is (Noted (Report (Confirmed 0 1 1))) ∷ row_12
-
-abbrev pub row_14 : List Moment
-row_14 = Is (Given (Piece 0 Controller add_and_request)) ∷ row_13
-
-abbrev pub row_15 : List Moment
-row_15 = Came 0 Controller add ∷ row_14
-
-abbrev pub row_16 : List Moment
-row_16 = Did 0 (Plan add) ∷ row_15
-
-abbrev pub row_17 : List Moment
-row_17 = Did 0 (Step Switch add (Some (record { edit = edit.Put rule_of_add None; closing = None }))) ∷ row_16
-
-abbrev pub row_18 : List Moment
-row_18 = Is (Put 0 Switch add false) ∷ row_17
-
-abbrev pub row_19 : List Moment
-row_19 = Came 0 Controller request ∷ row_18
-
-abbrev pub row_20 : List Moment
-row_20 = Did 0 (Plan request) ∷ row_19
-
-abbrev pub row_21 : List Moment
-row_21 = Did 0 (Step Switch request None) ∷ row_20
-
-abbrev pub row_22 : List Moment
-row_22 = Is (Put 0 Switch request false) ∷ row_21
-
-abbrev pub row_23 : List Moment
-row_23 = Is (Noted (Offer 2 0 2 5)) ∷ row_22
-
-abbrev pub row_24 : List Moment
-row_24 = Is (Given (Piece 0 Switch reply)) ∷ row_23
-
-abbrev pub row_25 : List Moment
-row_25 = Came 0 Switch reply ∷ row_24
-
-abbrev pub row_26 : List Moment
-row_26 = Is (Given (Answer 0)) ∷ row_25
-
-abbrev pub row_27 : List Moment
-row_27 = Is (Noted (Verdict 2 kind.Probe)) ∷ row_26
-
-abbrev pub row_28 : List Moment
-row_28 = Is (Noted (Probe 2 2 second)) ∷ row_27
-
-abbrev pub row_29 : List Moment
-row_29 = Went 0 2 1 out_2 false ∷ row_28
-
-abbrev pub row_30 : List Moment
-row_30 = Is (Given (Piece 0 Switch in_2)) ∷ row_29
-
-abbrev pub row_31 : List Moment
-row_31 = Came 0 Switch in_2 ∷ row_30
-
-abbrev pub row_32 : List Moment
-row_32 = Is (Given Tick) ∷ row_31
-
-abbrev pub row_33 : List Moment
-row_33 = Is (Given Tick) ∷ row_32
-
-abbrev pub row_34 : List Moment
-row_34 = Went 0 2 1 out_2 false ∷ row_33
-
-abbrev pub row_35 : List Moment
-row_35 = Is (Given Tick) ∷ row_34
-
-abbrev pub row_36 : List Moment
-row_36 = Is (Noted (Report (Fact 0 2 what.Silent))) ∷ row_35
-
-pub stands_0 : FramesGoInOrder run row_0
-stands_0 = Armed_first.at_end_45
-
-pub stands_1 : FramesGoInOrder run row_1
-unfolding next on_switch Reading.plain_header Matching.each_field Cutting.header_fault Mods.flow_mod_in Matches.match_of Matches.fields_of Matches.spelled Wild.unpacked Wild.is_exact Wild.packed Matching.normal Rules.same_match Rules.same_wild Rules.same_identity Rules.comes_before Same.same_header Tables.ties TableEdits.after Reading.nonce_of Reading.ethernet_of Reading.is_ipv4 Reading.transport_of Reading.ipv4_fields ActionBytes.is_faulty ActionBytes.known_action Matching.overlaps Matching.overlaps_field Matching.overlaps_address Matching.covers Matching.covers_field Matching.covers_address Order.key
-stands_1 = (refl, refl, stands_0)
-
-pub stands_2 : FramesGoInOrder run row_2
-unfolding next on_switch Reading.plain_header Matching.each_field Cutting.header_fault Mods.flow_mod_in Matches.match_of Matches.fields_of Matches.spelled Wild.unpacked Wild.is_exact Wild.packed Matching.normal Rules.same_match Rules.same_wild Rules.same_identity Rules.comes_before Same.same_header Tables.ties TableEdits.after Reading.nonce_of Reading.ethernet_of Reading.is_ipv4 Reading.transport_of Reading.ipv4_fields ActionBytes.is_faulty ActionBytes.known_action Matching.overlaps Matching.overlaps_field Matching.overlaps_address Matching.covers Matching.covers_field Matching.covers_address Order.key
-stands_2 = (tt, refl, stands_1)
-
-pub stands_3 : FramesGoInOrder run row_3
-unfolding next on_switch Reading.plain_header Matching.each_field Cutting.header_fault Mods.flow_mod_in Matches.match_of Matches.fields_of Matches.spelled Wild.unpacked Wild.is_exact Wild.packed Matching.normal Rules.same_match Rules.same_wild Rules.same_identity Rules.comes_before Same.same_header Tables.ties TableEdits.after Reading.nonce_of Reading.ethernet_of Reading.is_ipv4 Reading.transport_of Reading.ipv4_fields ActionBytes.is_faulty ActionBytes.known_action Matching.overlaps Matching.overlaps_field Matching.overlaps_address Matching.covers Matching.covers_field Matching.covers_address Order.key
-stands_3 = (tt, refl, stands_2)
-
-pub stands_4 : FramesGoInOrder run row_4
-unfolding next on_switch Reading.plain_header Matching.each_field Cutting.header_fault Mods.flow_mod_in Matches.match_of Matches.fields_of Matches.spelled Wild.unpacked Wild.is_exact Wild.packed Matching.normal Rules.same_match Rules.same_wild Rules.same_identity Rules.comes_before Same.same_header Tables.ties TableEdits.after Reading.nonce_of Reading.ethernet_of Reading.is_ipv4 Reading.transport_of Reading.ipv4_fields ActionBytes.is_faulty ActionBytes.known_action Matching.overlaps Matching.overlaps_field Matching.overlaps_address Matching.covers Matching.covers_field Matching.covers_address Order.key
-stands_4 = (tt, refl, stands_3)
-
-pub stands_5 : FramesGoInOrder run row_5
-unfolding next on_switch Reading.plain_header Matching.each_field Cutting.header_fault Mods.flow_mod_in Matches.match_of Matches.fields_of Matches.spelled Wild.unpacked Wild.is_exact Wild.packed Matching.normal Rules.same_match Rules.same_wild Rules.same_identity Rules.comes_before Same.same_header Tables.ties TableEdits.after Reading.nonce_of Reading.ethernet_of Reading.is_ipv4 Reading.transport_of Reading.ipv4_fields ActionBytes.is_faulty ActionBytes.known_action Matching.overlaps Matching.overlaps_field Matching.overlaps_address Matching.covers Matching.covers_field Matching.covers_address Order.key
-stands_5 = (tt, (false, refl), stands_4)
-
-pub stands_6 : FramesGoInOrder run row_6
-unfolding next on_switch Reading.plain_header Matching.each_field Cutting.header_fault Mods.flow_mod_in Matches.match_of Matches.fields_of Matches.spelled Wild.unpacked Wild.is_exact Wild.packed Matching.normal Rules.same_match Rules.same_wild Rules.same_identity Rules.comes_before Same.same_header Tables.ties TableEdits.after Reading.nonce_of Reading.ethernet_of Reading.is_ipv4 Reading.transport_of Reading.ipv4_fields ActionBytes.is_faulty ActionBytes.known_action Matching.overlaps Matching.overlaps_field Matching.overlaps_address Matching.covers Matching.covers_field Matching.covers_address Order.key
-stands_6 = (tt, refl, stands_5)
-
-pub stands_7 : FramesGoInOrder run row_7
-unfolding next on_switch Reading.plain_header Matching.each_field Cutting.header_fault Mods.flow_mod_in Matches.match_of Matches.fields_of Matches.spelled Wild.unpacked Wild.is_exact Wild.packed Matching.normal Rules.same_match Rules.same_wild Rules.same_identity Rules.comes_before Same.same_header Tables.ties TableEdits.after Reading.nonce_of Reading.ethernet_of Reading.is_ipv4 Reading.transport_of Reading.ipv4_fields ActionBytes.is_faulty ActionBytes.known_action Matching.overlaps Matching.overlaps_field Matching.overlaps_address Matching.covers Matching.covers_field Matching.covers_address Order.key
-stands_7 = (refl, refl, stands_6)
-
-pub stands_8 : FramesGoInOrder run row_8
-unfolding next on_switch Reading.plain_header Matching.each_field Cutting.header_fault Mods.flow_mod_in Matches.match_of Matches.fields_of Matches.spelled Wild.unpacked Wild.is_exact Wild.packed Matching.normal Rules.same_match Rules.same_wild Rules.same_identity Rules.comes_before Same.same_header Tables.ties TableEdits.after Reading.nonce_of Reading.ethernet_of Reading.is_ipv4 Reading.transport_of Reading.ipv4_fields ActionBytes.is_faulty ActionBytes.known_action Matching.overlaps Matching.overlaps_field Matching.overlaps_address Matching.covers Matching.covers_field Matching.covers_address Order.key
-stands_8 = (refl, refl, stands_7)
-
-pub stands_9 : FramesGoInOrder run row_9
-unfolding next on_switch Reading.plain_header Matching.each_field Cutting.header_fault Mods.flow_mod_in Matches.match_of Matches.fields_of Matches.spelled Wild.unpacked Wild.is_exact Wild.packed Matching.normal Rules.same_match Rules.same_wild Rules.same_identity Rules.comes_before Same.same_header Tables.ties TableEdits.after Reading.nonce_of Reading.ethernet_of Reading.is_ipv4 Reading.transport_of Reading.ipv4_fields ActionBytes.is_faulty ActionBytes.known_action Matching.overlaps Matching.overlaps_field Matching.overlaps_address Matching.covers Matching.covers_field Matching.covers_address Order.key
-stands_9 = (tt, (first, refl), stands_8)
-
-pub stands_10 : FramesGoInOrder run row_10
-unfolding next on_switch Reading.plain_header Matching.each_field Cutting.header_fault Mods.flow_mod_in Matches.match_of Matches.fields_of Matches.spelled Wild.unpacked Wild.is_exact Wild.packed Matching.normal Rules.same_match Rules.same_wild Rules.same_identity Rules.comes_before Same.same_header Tables.ties TableEdits.after Reading.nonce_of Reading.ethernet_of Reading.is_ipv4 Reading.transport_of Reading.ipv4_fields ActionBytes.is_faulty ActionBytes.known_action Matching.overlaps Matching.overlaps_field Matching.overlaps_address Matching.covers Matching.covers_field Matching.covers_address Order.key
-stands_10 = (tt, (1, out_1, false, refl), stands_9)
-
-pub stands_11 : FramesGoInOrder run row_11
-unfolding next on_switch Reading.plain_header Matching.each_field Cutting.header_fault Mods.flow_mod_in Matches.match_of Matches.fields_of Matches.spelled Wild.unpacked Wild.is_exact Wild.packed Matching.normal Rules.same_match Rules.same_wild Rules.same_identity Rules.comes_before Same.same_header Tables.ties TableEdits.after Reading.nonce_of Reading.ethernet_of Reading.is_ipv4 Reading.transport_of Reading.ipv4_fields ActionBytes.is_faulty ActionBytes.known_action Matching.overlaps Matching.overlaps_field Matching.overlaps_address Matching.covers Matching.covers_field Matching.covers_address Order.key
-stands_11 = (refl, refl, stands_10)
-
-pub stands_12 : FramesGoInOrder run row_12
-unfolding next on_switch Reading.plain_header Matching.each_field Cutting.header_fault Mods.flow_mod_in Matches.match_of Matches.fields_of Matches.spelled Wild.unpacked Wild.is_exact Wild.packed Matching.normal Rules.same_match Rules.same_wild Rules.same_identity Rules.comes_before Same.same_header Tables.ties TableEdits.after Reading.nonce_of Reading.ethernet_of Reading.is_ipv4 Reading.transport_of Reading.ipv4_fields ActionBytes.is_faulty ActionBytes.known_action Matching.overlaps Matching.overlaps_field Matching.overlaps_address Matching.covers Matching.covers_field Matching.covers_address Order.key
-stands_12 = (tt, refl, stands_11)
-
-pub stands_13 : FramesGoInOrder run row_13
-unfolding next on_switch Reading.plain_header Matching.each_field Cutting.header_fault Mods.flow_mod_in Matches.match_of Matches.fields_of Matches.spelled Wild.unpacked Wild.is_exact Wild.packed Matching.normal Rules.same_match Rules.same_wild Rules.same_identity Rules.comes_before Same.same_header Tables.ties TableEdits.after Reading.nonce_of Reading.ethernet_of Reading.is_ipv4 Reading.transport_of Reading.ipv4_fields ActionBytes.is_faulty ActionBytes.known_action Matching.overlaps Matching.overlaps_field Matching.overlaps_address Matching.covers Matching.covers_field Matching.covers_address Order.key
-stands_13 = (tt, refl, stands_12)
-
-pub stands_14 : FramesGoInOrder run row_14
-unfolding next on_switch Reading.plain_header Matching.each_field Cutting.header_fault Mods.flow_mod_in Matches.match_of Matches.fields_of Matches.spelled Wild.unpacked Wild.is_exact Wild.packed Matching.normal Rules.same_match Rules.same_wild Rules.same_identity Rules.comes_before Same.same_header Tables.ties TableEdits.after Reading.nonce_of Reading.ethernet_of Reading.is_ipv4 Reading.transport_of Reading.ipv4_fields ActionBytes.is_faulty ActionBytes.known_action Matching.overlaps Matching.overlaps_field Matching.overlaps_address Matching.covers Matching.covers_field Matching.covers_address Order.key
-stands_14 = (refl, refl, stands_13)
-
-pub stands_15 : FramesGoInOrder run row_15
-unfolding next on_switch Reading.plain_header Matching.each_field Cutting.header_fault Mods.flow_mod_in Matches.match_of Matches.fields_of Matches.spelled Wild.unpacked Wild.is_exact Wild.packed Matching.normal Rules.same_match Rules.same_wild Rules.same_identity Rules.comes_before Same.same_header Tables.ties TableEdits.after Reading.nonce_of Reading.ethernet_of Reading.is_ipv4 Reading.transport_of Reading.ipv4_fields ActionBytes.is_faulty ActionBytes.known_action Matching.overlaps Matching.overlaps_field Matching.overlaps_address Matching.covers Matching.covers_field Matching.covers_address Order.key
-stands_15 = (tt, refl, stands_14)
-
-pub stands_16 : FramesGoInOrder run row_16
-unfolding next on_switch Reading.plain_header Matching.each_field Cutting.header_fault Mods.flow_mod_in Matches.match_of Matches.fields_of Matches.spelled Wild.unpacked Wild.is_exact Wild.packed Matching.normal Rules.same_match Rules.same_wild Rules.same_identity Rules.comes_before Same.same_header Tables.ties TableEdits.after Reading.nonce_of Reading.ethernet_of Reading.is_ipv4 Reading.transport_of Reading.ipv4_fields ActionBytes.is_faulty ActionBytes.known_action Matching.overlaps Matching.overlaps_field Matching.overlaps_address Matching.covers Matching.covers_field Matching.covers_address Order.key
-stands_16 = (tt, refl, stands_15)
-
-pub stands_17 : FramesGoInOrder run row_17
-unfolding next on_switch Reading.plain_header Matching.each_field Cutting.header_fault Mods.flow_mod_in Matches.match_of Matches.fields_of Matches.spelled Wild.unpacked Wild.is_exact Wild.packed Matching.normal Rules.same_match Rules.same_wild Rules.same_identity Rules.comes_before Same.same_header Tables.ties TableEdits.after Reading.nonce_of Reading.ethernet_of Reading.is_ipv4 Reading.transport_of Reading.ipv4_fields ActionBytes.is_faulty ActionBytes.known_action Matching.overlaps Matching.overlaps_field Matching.overlaps_address Matching.covers Matching.covers_field Matching.covers_address Order.key
-stands_17 = (tt, refl, stands_16)
-
-pub stands_18 : FramesGoInOrder run row_18
-unfolding next on_switch Reading.plain_header Matching.each_field Cutting.header_fault Mods.flow_mod_in Matches.match_of Matches.fields_of Matches.spelled Wild.unpacked Wild.is_exact Wild.packed Matching.normal Rules.same_match Rules.same_wild Rules.same_identity Rules.comes_before Same.same_header Tables.ties TableEdits.after Reading.nonce_of Reading.ethernet_of Reading.is_ipv4 Reading.transport_of Reading.ipv4_fields ActionBytes.is_faulty ActionBytes.known_action Matching.overlaps Matching.overlaps_field Matching.overlaps_address Matching.covers Matching.covers_field Matching.covers_address Order.key
-stands_18 = (tt, (false, refl), stands_17)
-
-pub stands_19 : FramesGoInOrder run row_19
-unfolding next on_switch Reading.plain_header Matching.each_field Cutting.header_fault Mods.flow_mod_in Matches.match_of Matches.fields_of Matches.spelled Wild.unpacked Wild.is_exact Wild.packed Matching.normal Rules.same_match Rules.same_wild Rules.same_identity Rules.comes_before Same.same_header Tables.ties TableEdits.after Reading.nonce_of Reading.ethernet_of Reading.is_ipv4 Reading.transport_of Reading.ipv4_fields ActionBytes.is_faulty ActionBytes.known_action Matching.overlaps Matching.overlaps_field Matching.overlaps_address Matching.covers Matching.covers_field Matching.covers_address Order.key
-stands_19 = (tt, refl, stands_18)
-
-pub stands_20 : FramesGoInOrder run row_20
-unfolding next on_switch Reading.plain_header Matching.each_field Cutting.header_fault Mods.flow_mod_in Matches.match_of Matches.fields_of Matches.spelled Wild.unpacked Wild.is_exact Wild.packed Matching.normal Rules.same_match Rules.same_wild Rules.same_identity Rules.comes_before Same.same_header Tables.ties TableEdits.after Reading.nonce_of Reading.ethernet_of Reading.is_ipv4 Reading.transport_of Reading.ipv4_fields ActionBytes.is_faulty ActionBytes.known_action Matching.overlaps Matching.overlaps_field Matching.overlaps_address Matching.covers Matching.covers_field Matching.covers_address Order.key
-stands_20 = (tt, refl, stands_19)
-
-pub stands_21 : FramesGoInOrder run row_21
-unfolding next on_switch Reading.plain_header Matching.each_field Cutting.header_fault Mods.flow_mod_in Matches.match_of Matches.fields_of Matches.spelled Wild.unpacked Wild.is_exact Wild.packed Matching.normal Rules.same_match Rules.same_wild Rules.same_identity Rules.comes_before Same.same_header Tables.ties TableEdits.after Reading.nonce_of Reading.ethernet_of Reading.is_ipv4 Reading.transport_of Reading.ipv4_fields ActionBytes.is_faulty ActionBytes.known_action Matching.overlaps Matching.overlaps_field Matching.overlaps_address Matching.covers Matching.covers_field Matching.covers_address Order.key
-stands_21 = (tt, refl, stands_20)
-
-pub stands_22 : FramesGoInOrder run row_22
-unfolding next on_switch Reading.plain_header Matching.each_field Cutting.header_fault Mods.flow_mod_in Matches.match_of Matches.fields_of Matches.spelled Wild.unpacked Wild.is_exact Wild.packed Matching.normal Rules.same_match Rules.same_wild Rules.same_identity Rules.comes_before Same.same_header Tables.ties TableEdits.after Reading.nonce_of Reading.ethernet_of Reading.is_ipv4 Reading.transport_of Reading.ipv4_fields ActionBytes.is_faulty ActionBytes.known_action Matching.overlaps Matching.overlaps_field Matching.overlaps_address Matching.covers Matching.covers_field Matching.covers_address Order.key
-stands_22 = (tt, (false, refl), stands_21)
-
-pub stands_23 : FramesGoInOrder run row_23
-unfolding next on_switch Reading.plain_header Matching.each_field Cutting.header_fault Mods.flow_mod_in Matches.match_of Matches.fields_of Matches.spelled Wild.unpacked Wild.is_exact Wild.packed Matching.normal Rules.same_match Rules.same_wild Rules.same_identity Rules.comes_before Same.same_header Tables.ties TableEdits.after Reading.nonce_of Reading.ethernet_of Reading.is_ipv4 Reading.transport_of Reading.ipv4_fields ActionBytes.is_faulty ActionBytes.known_action Matching.overlaps Matching.overlaps_field Matching.overlaps_address Matching.covers Matching.covers_field Matching.covers_address Order.key
-stands_23 = (tt, refl, stands_22)
-
-pub stands_24 : FramesGoInOrder run row_24
-unfolding next on_switch Reading.plain_header Matching.each_field Cutting.header_fault Mods.flow_mod_in Matches.match_of Matches.fields_of Matches.spelled Wild.unpacked Wild.is_exact Wild.packed Matching.normal Rules.same_match Rules.same_wild Rules.same_identity Rules.comes_before Same.same_header Tables.ties TableEdits.after Reading.nonce_of Reading.ethernet_of Reading.is_ipv4 Reading.transport_of Reading.ipv4_fields ActionBytes.is_faulty ActionBytes.known_action Matching.overlaps Matching.overlaps_field Matching.overlaps_address Matching.covers Matching.covers_field Matching.covers_address Order.key
-stands_24 = (refl, refl, stands_23)
-
-pub stands_25 : FramesGoInOrder run row_25
-unfolding next on_switch Reading.plain_header Matching.each_field Cutting.header_fault Mods.flow_mod_in Matches.match_of Matches.fields_of Matches.spelled Wild.unpacked Wild.is_exact Wild.packed Matching.normal Rules.same_match Rules.same_wild Rules.same_identity Rules.comes_before Same.same_header Tables.ties TableEdits.after Reading.nonce_of Reading.ethernet_of Reading.is_ipv4 Reading.transport_of Reading.ipv4_fields ActionBytes.is_faulty ActionBytes.known_action Matching.overlaps Matching.overlaps_field Matching.overlaps_address Matching.covers Matching.covers_field Matching.covers_address Order.key
-stands_25 = (tt, refl, stands_24)
-
-pub stands_26 : FramesGoInOrder run row_26
-unfolding next on_switch Reading.plain_header Matching.each_field Cutting.header_fault Mods.flow_mod_in Matches.match_of Matches.fields_of Matches.spelled Wild.unpacked Wild.is_exact Wild.packed Matching.normal Rules.same_match Rules.same_wild Rules.same_identity Rules.comes_before Same.same_header Tables.ties TableEdits.after Reading.nonce_of Reading.ethernet_of Reading.is_ipv4 Reading.transport_of Reading.ipv4_fields ActionBytes.is_faulty ActionBytes.known_action Matching.overlaps Matching.overlaps_field Matching.overlaps_address Matching.covers Matching.covers_field Matching.covers_address Order.key
-stands_26 = (refl, refl, stands_25)
-
-pub stands_27 : FramesGoInOrder run row_27
-unfolding next on_switch Reading.plain_header Matching.each_field Cutting.header_fault Mods.flow_mod_in Matches.match_of Matches.fields_of Matches.spelled Wild.unpacked Wild.is_exact Wild.packed Matching.normal Rules.same_match Rules.same_wild Rules.same_identity Rules.comes_before Same.same_header Tables.ties TableEdits.after Reading.nonce_of Reading.ethernet_of Reading.is_ipv4 Reading.transport_of Reading.ipv4_fields ActionBytes.is_faulty ActionBytes.known_action Matching.overlaps Matching.overlaps_field Matching.overlaps_address Matching.covers Matching.covers_field Matching.covers_address Order.key
-stands_27 = (refl, refl, stands_26)
-
-pub stands_28 : FramesGoInOrder run row_28
-unfolding next on_switch Reading.plain_header Matching.each_field Cutting.header_fault Mods.flow_mod_in Matches.match_of Matches.fields_of Matches.spelled Wild.unpacked Wild.is_exact Wild.packed Matching.normal Rules.same_match Rules.same_wild Rules.same_identity Rules.comes_before Same.same_header Tables.ties TableEdits.after Reading.nonce_of Reading.ethernet_of Reading.is_ipv4 Reading.transport_of Reading.ipv4_fields ActionBytes.is_faulty ActionBytes.known_action Matching.overlaps Matching.overlaps_field Matching.overlaps_address Matching.covers Matching.covers_field Matching.covers_address Order.key
-stands_28 = (tt, (second, refl), stands_27)
-
-pub stands_29 : FramesGoInOrder run row_29
-unfolding next on_switch Reading.plain_header Matching.each_field Cutting.header_fault Mods.flow_mod_in Matches.match_of Matches.fields_of Matches.spelled Wild.unpacked Wild.is_exact Wild.packed Matching.normal Rules.same_match Rules.same_wild Rules.same_identity Rules.comes_before Same.same_header Tables.ties TableEdits.after Reading.nonce_of Reading.ethernet_of Reading.is_ipv4 Reading.transport_of Reading.ipv4_fields ActionBytes.is_faulty ActionBytes.known_action Matching.overlaps Matching.overlaps_field Matching.overlaps_address Matching.covers Matching.covers_field Matching.covers_address Order.key
-stands_29 = (tt, (1, out_2, false, refl), stands_28)
-
-pub stands_30 : FramesGoInOrder run row_30
-unfolding next on_switch Reading.plain_header Matching.each_field Cutting.header_fault Mods.flow_mod_in Matches.match_of Matches.fields_of Matches.spelled Wild.unpacked Wild.is_exact Wild.packed Matching.normal Rules.same_match Rules.same_wild Rules.same_identity Rules.comes_before Same.same_header Tables.ties TableEdits.after Reading.nonce_of Reading.ethernet_of Reading.is_ipv4 Reading.transport_of Reading.ipv4_fields ActionBytes.is_faulty ActionBytes.known_action Matching.overlaps Matching.overlaps_field Matching.overlaps_address Matching.covers Matching.covers_field Matching.covers_address Order.key
-stands_30 = (refl, refl, stands_29)
-
-pub stands_31 : FramesGoInOrder run row_31
-unfolding next on_switch Reading.plain_header Matching.each_field Cutting.header_fault Mods.flow_mod_in Matches.match_of Matches.fields_of Matches.spelled Wild.unpacked Wild.is_exact Wild.packed Matching.normal Rules.same_match Rules.same_wild Rules.same_identity Rules.comes_before Same.same_header Tables.ties TableEdits.after Reading.nonce_of Reading.ethernet_of Reading.is_ipv4 Reading.transport_of Reading.ipv4_fields ActionBytes.is_faulty ActionBytes.known_action Matching.overlaps Matching.overlaps_field Matching.overlaps_address Matching.covers Matching.covers_field Matching.covers_address Order.key
-stands_31 = (tt, refl, stands_30)
-
-pub stands_32 : FramesGoInOrder run row_32
-unfolding next on_switch Reading.plain_header Matching.each_field Cutting.header_fault Mods.flow_mod_in Matches.match_of Matches.fields_of Matches.spelled Wild.unpacked Wild.is_exact Wild.packed Matching.normal Rules.same_match Rules.same_wild Rules.same_identity Rules.comes_before Same.same_header Tables.ties TableEdits.after Reading.nonce_of Reading.ethernet_of Reading.is_ipv4 Reading.transport_of Reading.ipv4_fields ActionBytes.is_faulty ActionBytes.known_action Matching.overlaps Matching.overlaps_field Matching.overlaps_address Matching.covers Matching.covers_field Matching.covers_address Order.key
-stands_32 = (refl, refl, stands_31)
-
-pub stands_33 : FramesGoInOrder run row_33
-unfolding next on_switch Reading.plain_header Matching.each_field Cutting.header_fault Mods.flow_mod_in Matches.match_of Matches.fields_of Matches.spelled Wild.unpacked Wild.is_exact Wild.packed Matching.normal Rules.same_match Rules.same_wild Rules.same_identity Rules.comes_before Same.same_header Tables.ties TableEdits.after Reading.nonce_of Reading.ethernet_of Reading.is_ipv4 Reading.transport_of Reading.ipv4_fields ActionBytes.is_faulty ActionBytes.known_action Matching.overlaps Matching.overlaps_field Matching.overlaps_address Matching.covers Matching.covers_field Matching.covers_address Order.key
-stands_33 = (refl, refl, stands_32)
-
-pub stands_34 : FramesGoInOrder run row_34
-unfolding next on_switch Reading.plain_header Matching.each_field Cutting.header_fault Mods.flow_mod_in Matches.match_of Matches.fields_of Matches.spelled Wild.unpacked Wild.is_exact Wild.packed Matching.normal Rules.same_match Rules.same_wild Rules.same_identity Rules.comes_before Same.same_header Tables.ties TableEdits.after Reading.nonce_of Reading.ethernet_of Reading.is_ipv4 Reading.transport_of Reading.ipv4_fields ActionBytes.is_faulty ActionBytes.known_action Matching.overlaps Matching.overlaps_field Matching.overlaps_address Matching.covers Matching.covers_field Matching.covers_address Order.key
-stands_34 = (tt, (1, out_2, false, refl), stands_33)
-
-pub stands_35 : FramesGoInOrder run row_35
-unfolding next on_switch Reading.plain_header Matching.each_field Cutting.header_fault Mods.flow_mod_in Matches.match_of Matches.fields_of Matches.spelled Wild.unpacked Wild.is_exact Wild.packed Matching.normal Rules.same_match Rules.same_wild Rules.same_identity Rules.comes_before Same.same_header Tables.ties TableEdits.after Reading.nonce_of Reading.ethernet_of Reading.is_ipv4 Reading.transport_of Reading.ipv4_fields ActionBytes.is_faulty ActionBytes.known_action Matching.overlaps Matching.overlaps_field Matching.overlaps_address Matching.covers Matching.covers_field Matching.covers_address Order.key
-stands_35 = (refl, refl, stands_34)
-
-pub stands_36 : FramesGoInOrder run row_36
-unfolding next on_switch Reading.plain_header Matching.each_field Cutting.header_fault Mods.flow_mod_in Matches.match_of Matches.fields_of Matches.spelled Wild.unpacked Wild.is_exact Wild.packed Matching.normal Rules.same_match Rules.same_wild Rules.same_identity Rules.comes_before Same.same_header Tables.ties TableEdits.after Reading.nonce_of Reading.ethernet_of Reading.is_ipv4 Reading.transport_of Reading.ipv4_fields ActionBytes.is_faulty ActionBytes.known_action Matching.overlaps Matching.overlaps_field Matching.overlaps_address Matching.covers Matching.covers_field Matching.covers_address Order.key
-stands_36 = (tt, refl, stands_35)
-
-ended : next run row_36 ≡ Nothing
-unfolding next on_switch Reading.plain_header Matching.each_field Cutting.header_fault Mods.flow_mod_in Matches.match_of Matches.fields_of Matches.spelled Wild.unpacked Wild.is_exact Wild.packed Matching.normal Rules.same_match Rules.same_wild Rules.same_identity Rules.comes_before Same.same_header Tables.ties TableEdits.after Reading.nonce_of Reading.ethernet_of Reading.is_ipv4 Reading.transport_of Reading.ipv4_fields ActionBytes.is_faulty ActionBytes.known_action Matching.overlaps Matching.overlaps_field Matching.overlaps_address Matching.covers Matching.covers_field Matching.covers_address Order.key
+use Rattle.mon_outcome.specs.declared.emission.Emission.{Emission}
+use Rattle.mon_outcome.specs.declared.emission.Emission.TheVariants as emissions
+use Rattle.mon_report.specs.declared.line.Line.TheVariants.{Fact}
+use Rattle.mon_report.specs.declared.line.What.TheVariants as what
+use Rattle.mon_world.specs.declared.event.Side.TheVariants.{Controller}
+use Rattle.mon_world.specs.declared.event.Event.TheVariants.{Piece, Tick}
+use Rattle.mon_world.specs.declared.event.Note.TheVariants.{Offer, Report}
+use Rattle.mon_world.specs.declared.history.Entry.TheVariants.{Given, Noted}
+use Rattle.mon_legal.specs.Moments.{Moment}
+use Rattle.mon_legal.specs.Moments.Moment.{Is, Went}
+use Rattle.mon_legal.specs.Owns.{Change}
+use Rattle.mon_legal.specs.Ordering.{next}
+use Rattle.mon_legal.specs.Ordering.Next.{Nothing}
+use Rattle.mon_legal.specs.Passing.{FramesGoInOrder}
+use Rattle.mon_legal.specs.Story.{run, header, emission, add, change_of_add, request, reply, probe_out, probe_in, armed, comes, passes, is_probed, is_confirmed}
+use Rattle.mon_legal.proofs.Samples.{out_2, in_2}
+use Rattle.mon_legal.proofs.Computed.{computed}
+use Rattle.mon_legal.proofs.OrderStands
+
+-- the lower rule, to the controller
+abbrev pub low_add : List ℕ
+low_add = 1 ∷ 14 ∷ 0 ∷ 80 ∷ 0 ∷ 0 ∷ 0 ∷ 17 ∷ 0 ∷ 56 ∷ 32 ∷ 238 ∷ 0 ∷ 1 ∷ 0 ∷ 0 ∷ 0 ∷ 0 ∷ 0 ∷ 0 ∷ 0 ∷ 0 ∷ 0 ∷ 0 ∷ 0 ∷ 0 ∷ 0 ∷ 0 ∷ 0 ∷ 0 ∷ 8 ∷ 0 ∷ 0 ∷ 0 ∷ 0 ∷ 0 ∷ 0 ∷ 0 ∷ 0 ∷ 0 ∷ 0 ∷ 0 ∷ 0 ∷ 0 ∷ 0 ∷ 0 ∷ 0 ∷ 0 ∷ 0 ∷ 0 ∷ 0 ∷ 0 ∷ 0 ∷ 0 ∷ 0 ∷ 0 ∷ 0 ∷ 0 ∷ 0 ∷ 0 ∷ 0 ∷ 0 ∷ 0 ∷ 50 ∷ 255 ∷ 255 ∷ 255 ∷ 255 ∷ 255 ∷ 255 ∷ 0 ∷ 0 ∷ 0 ∷ 0 ∷ 0 ∷ 8 ∷ 255 ∷ 253 ∷ 255 ∷ 255 ∷ []
+
+abbrev pub low_rule : Rule
+low_rule = record { matching = record { wild = record { in_port = false; dl_vlan = true; dl_src = true; dl_dst = true; dl_type = false; nw_proto = true; tp_src = true; tp_dst = true; nw_src = 32; nw_dst = 32; dl_vlan_pcp = true; nw_tos = true }; fields = record { in_port = 1; dl_src = 0; dl_dst = 0; dl_vlan = 0; dl_vlan_pcp = 0; dl_type = 2048; nw_tos = 0; nw_proto = 0; nw_src = 0; nw_dst = 0; tp_src = 0; tp_dst = 0 } }; priority = 50; actions = Output 65533 65535 ∷ []; unsure = false }
+
+abbrev pub low_change : Option Change
+low_change = Some (record { edit = edit.Put low_rule None; closing = None })
+
+abbrev pub shows_low : Emission
+shows_low = emissions.Controller header
+
+-- the lower rule is confirmed; the upper one is sent, and its probe goes out
+abbrev pub probed : List Moment
+probed =
+    is_probed 2 emission 1 out_2 (comes 0 reply (Is (Noted (Offer 2 0 2 5))
+    ∷ passes request request None (passes add add change_of_add (Is (Given (Piece 0 Controller (add ++ request)))
+    ∷ is_confirmed 1 0 probe_in (is_probed 1 shows_low 1 probe_out (Is (Noted (Offer 1 0 1 4))
+    ∷ passes low_add low_add low_change (Is (Given (Piece 0 Controller low_add)) ∷ armed)))))))
+
+-- it comes back to the controller
+abbrev pub returned : List Moment
+returned = comes 0 in_2 probed
+
+abbrev pub row : List Moment
+row = Is (Noted (Report (Fact 0 2 what.Silent))) ∷ Is (Given Tick) ∷ Went 0 2 1 out_2 false ∷ Is (Given Tick) ∷ Is (Given Tick) ∷ returned
+
+stands : FramesGoInOrder run row
+unfolding computed
+stands = (tt, refl, (refl, refl, (tt, (1, out_2, false, refl), (refl, refl, (refl, refl, (tt, refl, (refl, refl, (tt, (1, out_2, false, refl), (tt, (emission, refl), (refl, refl, (refl, refl, (tt, refl, (refl, refl, (tt, refl, (tt, (false, refl), (tt, refl, (tt, refl, (tt, refl, (tt, (false, refl), (tt, refl, (tt, refl, (tt, refl, (refl, refl, (tt, refl, (tt, refl, (refl, refl, (tt, (1, probe_out, false, refl), (tt, (shows_low, refl), (refl, refl, (refl, refl, (tt, refl, (tt, (false, refl), (tt, refl, (tt, refl, (tt, refl, (refl, refl, OrderStands.until_armed))))))))))))))))))))))))))))))))))))
+
+ended : next run row ≡ Nothing
+unfolding computed
 ended = refl

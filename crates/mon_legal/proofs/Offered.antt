@@ -3,7 +3,6 @@ use Rattle.std.proofs.Common.{◌≡◌, ℕ, ◌+◌, ◌<◌, Bool, true, fals
 use Rattle.std.specs.Prelude.{nat_lt, not, ◌==◌}
 use Rattle.std.proofs.lemmas.Bool.{false≢true}
 use Rattle.mon_table.specs.declared.rule.Rule.{Rule}
-use Rattle.of_frame.specs.declared.fault.FrameFault.{FrameFault}
 use Rattle.mon_world.specs.declared.event.Note.TheVariants.{Offer, Verdict, Probe, Report}
 use Rattle.mon_legal.specs.Runs.{Run}
 use Rattle.mon_legal.specs.Owns.{Act}
@@ -11,18 +10,16 @@ use Rattle.mon_legal.specs.Sessions.{part, is_open, is_tick, opened, version}
 use Rattle.mon_legal.specs.Moments.{Moment, begins, cause}
 use Rattle.mon_legal.specs.Offering.{OffersRightly, NoneWants, JobsAreOffered}
 use Rattle.mon_legal.specs.Passing.{NothingIsLeft, Comes, FramesGoInOrder}
-use Rattle.mon_legal.proofs.Coming.{some-same, first-has, first-none, kept-where, is_nothing}
+use Rattle.mon_legal.proofs.Coming.{first-has, first-none, kept-where, is_nothing, made-none, piece-none}
 use Rattle.mon_legal.proofs.Waiting.{at-turn}
 use Rattle.mon_world.specs.declared.history.Entry.TheVariants.{End, Given, Noted, Put}
 use Rattle.mon_legal.specs.Watching.{Watching, wants_watch, watch_wanted, watching}
 use Rattle.mon_legal.specs.Ordering.Next.{Breaks_off, Handles, Loses, Meets, Nothing, Takes, Wants}
-use Rattle.mon_legal.specs.Ordering.{Next, act_of, due_of, fault_in, first_with, jobs_in_slot, lost_of, next, next_frame, or_next, piece_of, rest_of_frames, rest_of_piece, want_of}
+use Rattle.mon_legal.specs.Ordering.{Next, act_of, due_of, first_with, jobs_in_slot, lost_of, next, or_next, piece_of, rest_of_piece, want_of}
 use Rattle.mon_legal.specs.Probes.{live, oldest_of, or_own, wanting, wants, with_job}
-use Rattle.mon_world.specs.declared.event.Side.{Side}
 use Rattle.mon_legal.specs.Moments.Moment.{Broke, Came, Did, Is, Went}
 use Rattle.mon_legal.specs.Directly.Due.{Ending, Frame, Going, Probing, Tells}
 use Rattle.mon_legal.specs.Directly.{Due}
-use Rattle.mon_legal.proofs.Handled.{piece-something}
 use Rattle.mon_legal.specs.Jobs.{last_job, last_serial}
 use Rattle.mon_legal.specs.Edits.{Passed, entries, unsettled}
 use Rattle.mon_legal.specs.Barriers.{is_armed}
@@ -76,31 +73,6 @@ or-wants : (a : Option Next) (b n : Next) → ((m : Next) → a ≡ Some m → i
 or-wants None b n k y e = e
 or-wants (Some m) b n k y e = absurd (false≢true (sym (k m refl) ∙ (ap is_wants e ∙ y)))
 
-meets-wants : (o : Option (ℕ × Due)) (n : Next) → option_map (λ p. Meets p.0 p.1) o ≡ Some n → is_wants n ≡ false
-meets-wants None n e = absurd (let g : None ≡ Some n = e in cc)
-meets-wants (Some p) n e = sym (ap is_wants (some-same (Meets p.0 p.1) n e))
-
-takes-wants : (o : Option (ℕ × Act)) (n : Next) → option_map (λ p. Takes p.0 p.1) o ≡ Some n → is_wants n ≡ false
-takes-wants None n e = absurd (let g : None ≡ Some n = e in cc)
-takes-wants (Some p) n e = sym (ap is_wants (some-same (Takes p.0 p.1) n e))
-
-loses-wants : (o : Option (ℕ × Unit {0})) (n : Next) → option_map (λ p. Loses p.0) o ≡ Some n → is_wants n ≡ false
-loses-wants None n e = absurd (let g : None ≡ Some n = e in cc)
-loses-wants (Some p) n e = sym (ap is_wants (some-same (Loses p.0) n e))
-
-frames-wants : (s : ℕ) (side : Side) (f : List Moment) (a : Option (List ℕ)) (b : Option FrameFault) (n : Next) → rest_of_frames s side f a b ≡ Some n → is_wants n ≡ false
-frames-wants s side f (Some frame) b n e = sym (ap is_wants (some-same _ n e))
-frames-wants s side f None (Some fault) n e = sym (ap is_wants (some-same _ n e))
-frames-wants s side f None None n e = absurd (let g : None ≡ Some n = e in cc)
-
-piece-wants : (run : Run) (f : List Moment) (o : Option (ℕ × Side)) (n : Next) → rest_of_piece run f o ≡ Some n → is_wants n ≡ false
-piece-wants run f None n e = absurd (let g : None ≡ Some n = e in cc)
-piece-wants run f (Some p) n e =
-    elim (is_open (part run p.0 f)) as (λ b. cond b (rest_of_frames p.0 p.1 f (next_frame run p.0 p.1 f) (fault_in run p.0 p.1 f)) None ≡ Some n → is_wants n ≡ false) [
-      | true ↦ λ g. frames-wants p.0 p.1 f (next_frame run p.0 p.1 f) (fault_in run p.0 p.1 f) n g
-      | false ↦ λ g. absurd (let h : None ≡ Some n = g in cc)
-    ] e
-
 last-wants : (w : Option (ℕ × ℕ)) (s k : ℕ) → or_next (option_map (λ p. Wants p.0 p.1) w) Nothing ≡ Wants s k → w ≡ Some (s, k)
 last-wants (Some p) s k e = ap (λ (x : ℕ). Some (x, p.1)) (ap wanter e) ∙ ap (λ (y : ℕ). Some (s, y)) (ap wanted e)
 last-wants None s k e = absurd (let g : Nothing ≡ Wants s k = e in cc)
@@ -110,10 +82,10 @@ unfolding next
 next-wants run f s k e =
     let all = opened run f in
     last-wants (first_with (want_of run f) all) s k
-    (or-wants (rest_of_piece run f (piece_of f)) _ (Wants s k) (piece-wants run f (piece_of f)) refl
-    (or-wants (option_map (λ p. Loses p.0) (first_with (lost_of run f) all)) _ (Wants s k) (loses-wants (first_with (lost_of run f) all)) refl
-    (or-wants (option_map (λ p. Takes p.0 p.1) (first_with (act_of run f) all)) _ (Wants s k) (takes-wants (first_with (act_of run f) all)) refl
-    (or-wants (option_map (λ p. Meets p.0 p.1) (first_with (due_of run f) all)) _ (Wants s k) (meets-wants (first_with (due_of run f) all)) refl e))))
+    (or-wants (rest_of_piece run f (piece_of f)) _ (Wants s k) (piece-none is_wants (λ r side frame. refl) (λ r side fault. refl) run f (piece_of f)) refl
+    (or-wants (option_map (λ p. Loses p.0) (first_with (lost_of run f) all)) _ (Wants s k) (made-none is_wants (λ (p : ℕ × Unit {0}). Loses p.0) (λ p. refl) (first_with (lost_of run f) all)) refl
+    (or-wants (option_map (λ p. Takes p.0 p.1) (first_with (act_of run f) all)) _ (Wants s k) (made-none is_wants (λ (p : ℕ × Act). Takes p.0 p.1) (λ p. refl) (first_with (act_of run f) all)) refl
+    (or-wants (option_map (λ p. Meets p.0 p.1) (first_with (due_of run f) all)) _ (Wants s k) (made-none is_wants (λ (p : ℕ × Due). Meets p.0 p.1) (λ p. refl) (first_with (due_of run f) all)) refl e))))
 
 -- the session is armed, and has room
 armed-or-none : (b tick : Bool) (a : Option ℕ) (x : Bool) (w : Watching) (t : List Rule) (edits : List Passed) (k : ℕ)
@@ -163,27 +135,15 @@ not-wanted : (w : Option (ℕ × ℕ)) → is_nothing (or_next (option_map (λ p
 not-wanted (Some p) e = absurd (false≢true e)
 not-wanted None e = refl
 
-meets-left : (o : Option (ℕ × Due)) (n : Next) → option_map (λ p. Meets p.0 p.1) o ≡ Some n → is_nothing n ≡ false
-meets-left None n e = absurd (let g : None ≡ Some n = e in cc)
-meets-left (Some p) n e = sym (ap is_nothing (some-same (Meets p.0 p.1) n e))
-
-takes-left : (o : Option (ℕ × Act)) (n : Next) → option_map (λ p. Takes p.0 p.1) o ≡ Some n → is_nothing n ≡ false
-takes-left None n e = absurd (let g : None ≡ Some n = e in cc)
-takes-left (Some p) n e = sym (ap is_nothing (some-same (Takes p.0 p.1) n e))
-
-loses-left : (o : Option (ℕ × Unit {0})) (n : Next) → option_map (λ p. Loses p.0) o ≡ Some n → is_nothing n ≡ false
-loses-left None n e = absurd (let g : None ≡ Some n = e in cc)
-loses-left (Some p) n e = sym (ap is_nothing (some-same (Loses p.0) n e))
-
 nothing-wanted : (run : Run) (f : List Moment) → next run f ≡ Nothing → first_with (want_of run f) (opened run f) ≡ None
 unfolding next
 nothing-wanted run f e =
     let all = opened run f in
     not-wanted (first_with (want_of run f) all)
-    (rest-none (rest_of_piece run f (piece_of f)) _ (piece-something run f (piece_of f))
-    (rest-none (option_map (λ p. Loses p.0) (first_with (lost_of run f) all)) _ (loses-left (first_with (lost_of run f) all))
-    (rest-none (option_map (λ p. Takes p.0 p.1) (first_with (act_of run f) all)) _ (takes-left (first_with (act_of run f) all))
-    (rest-none (option_map (λ p. Meets p.0 p.1) (first_with (due_of run f) all)) _ (meets-left (first_with (due_of run f) all)) (ap is_nothing e)))))
+    (rest-none (rest_of_piece run f (piece_of f)) _ (piece-none is_nothing (λ r side frame. refl) (λ r side fault. refl) run f (piece_of f))
+    (rest-none (option_map (λ p. Loses p.0) (first_with (lost_of run f) all)) _ (made-none is_nothing (λ (p : ℕ × Unit {0}). Loses p.0) (λ p. refl) (first_with (lost_of run f) all))
+    (rest-none (option_map (λ p. Takes p.0 p.1) (first_with (act_of run f) all)) _ (made-none is_nothing (λ (p : ℕ × Act). Takes p.0 p.1) (λ p. refl) (first_with (act_of run f) all))
+    (rest-none (option_map (λ p. Meets p.0 p.1) (first_with (due_of run f) all)) _ (made-none is_nothing (λ (p : ℕ × Due). Meets p.0 p.1) (λ p. refl) (first_with (due_of run f) all)) (ap is_nothing e)))))
 
 none-wants : (run : Run) (f : List Moment) → NothingIsLeft run f → NoneWants run f
 none-wants run f e =

@@ -1,4 +1,4 @@
--- Types of messages and a port that the rules on sessions name (OpenFlow 1.0.0, OpenFlow header and port structures).
+-- Types of messages that the rules on sessions name (OpenFlow 1.0.0, OpenFlow header).
 use Rattle.std.specs.Prelude.{ℕ}
 
 abbrev pub ECHO_REQUEST : ℕ
@@ -27,7 +27,3 @@ BARRIER_REQUEST = 18
 
 abbrev pub BARRIER_REPLY : ℕ
 BARRIER_REPLY = 19
-
--- the standard's OFPP_CONTROLLER
-abbrev pub CONTROLLER_PORT : ℕ
-CONTROLLER_PORT = 0xfffd

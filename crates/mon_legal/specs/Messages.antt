@@ -4,6 +4,8 @@ use Rattle.std.specs.Str.{bytes_eq}
 use Rattle.byteorder.specs.Endian.{big_bytes}
 use Rattle.mon_fields.specs.Fields.{number_at}
 use Rattle.mon_header.specs.declared.header.Header.{Header}
+use Rattle.mon_header.specs.declared.header.TheConstants.{BLANK}
+use Rattle.mon_header.specs.Assigned.{CONTROLLER_PORT}
 use Rattle.mon_header.specs.declared.action.Action.TheVariants.{Output}
 use Rattle.mon_header.specs.Wild.{unpacked}
 use Rattle.mon_header.specs.Matching.{Matching, normal}
@@ -24,7 +26,7 @@ use Rattle.mon_outcome.specs.Emitting.{shown}
 use Rattle.mon_packet.specs.Frames.{rendered}
 use Rattle.mon_packet.specs.Reading.{Read, parsed}
 use Rattle.mon_legal.specs.StandIns.{drop_mark}
-use Rattle.mon_legal.specs.Kinds.{ECHO_REQUEST, ECHO_REPLY, FEATURES_REQUEST, FEATURES_REPLY, SET_CONFIG, PACKET_IN, FLOW_REMOVED, BARRIER_REQUEST, BARRIER_REPLY, CONTROLLER_PORT}
+use Rattle.mon_legal.specs.Kinds.{ECHO_REQUEST, ECHO_REPLY, FEATURES_REQUEST, FEATURES_REPLY, SET_CONFIG, PACKET_IN, FLOW_REMOVED, BARRIER_REQUEST, BARRIER_REPLY}
 
 -- which type a frame has
 abbrev pub is_error : List ℕ → Bool
@@ -82,39 +84,46 @@ features_request = made FEATURES_REQUEST own_xid []
 abbrev pub own_barrier : List ℕ
 own_barrier = made BARRIER_REQUEST own_xid []
 
--- no field of a header
-abbrev pub nothing : Header
-nothing = record {
-  in_port = 0;
-  dl_src = 0;
-  dl_dst = 0;
-  dl_vlan = 0;
-  dl_vlan_pcp = 0;
-  dl_type = 0;
-  nw_tos = 0;
-  nw_proto = 0;
-  nw_src = 0;
-  nw_dst = 0;
-  tp_src = 0;
-  tp_dst = 0;
-}
+-- wildcards: all, all but the tag, and all but the destination (OpenFlow 1.0.0, flow match structures)
+abbrev pub ALL_WILD : ℕ
+ALL_WILD = 0x003820ff
+
+abbrev pub BUT_TAG : ℕ
+BUT_TAG = 0x003820fd
+
+abbrev pub BUT_DESTINATION : ℕ
+BUT_DESTINATION = 0x003820f7
+
+-- the priorities of the proxy's entries, the catching ones above the one that drops
+abbrev pub CATCHING_PRIORITY : ℕ
+CATCHING_PRIORITY = 65535
+
+abbrev pub DROPPING_PRIORITY : ℕ
+DROPPING_PRIORITY = 65534
+
+-- how many bytes of a packet go to the controller: as many as it has, where it is caught, and of a miss
+abbrev pub WHOLE : ℕ
+WHOLE = 65535
+
+abbrev pub MISS_LENGTH : ℕ
+MISS_LENGTH = 128
 
 -- the match of every packet, of the packets with a tag, and of those with the address that marks drops
 abbrev pub all_packets : Matching
-all_packets = normal (unpacked 0x003820ff) nothing
+all_packets = normal (unpacked ALL_WILD) BLANK
 
 abbrev pub with_tag : ℕ → Matching
-with_tag tag = normal (unpacked 0x003820fd) (record nothing { dl_vlan = tag })
+with_tag tag = normal (unpacked BUT_TAG) (record BLANK { dl_vlan = tag })
 
 abbrev pub with_drop_mark : Matching
-with_drop_mark = normal (unpacked 0x003820f7) (record nothing { dl_dst = drop_mark })
+with_drop_mark = normal (unpacked BUT_DESTINATION) (record BLANK { dl_dst = drop_mark })
 
 -- the entry by which a switch hands the probes of another tag to the proxy, and the one that drops what is marked
 abbrev pub catching_rule : ℕ → Rule
-catching_rule tag = record { matching = with_tag tag; priority = 65535; actions = Output CONTROLLER_PORT 65535 ∷ []; unsure = false }
+catching_rule tag = record { matching = with_tag tag; priority = CATCHING_PRIORITY; actions = Output CONTROLLER_PORT WHOLE ∷ []; unsure = false }
 
 abbrev pub mark_rule : Rule
-mark_rule = record { matching = with_drop_mark; priority = 65534; actions = []; unsure = false }
+mark_rule = record { matching = with_drop_mark; priority = DROPPING_PRIORITY; actions = []; unsure = false }
 
 -- the tags that a switch with this one catches
 abbrev pub other_tags : ℕ → List ℕ → List ℕ
@@ -143,7 +152,7 @@ own_mod command r = made FLOW_MOD own_xid (spelled r.matching ++ own_fields comm
 abbrev pub arming_frames : ℕ → List ℕ → List (List ℕ)
 arming_frames tag in_use =
     own_mod Delete (record { matching = all_packets; priority = 0; actions = []; unsure = false })
-    ∷ made SET_CONFIG own_xid (big_bytes 2 0 ++ big_bytes 2 128)
+    ∷ made SET_CONFIG own_xid (big_bytes 2 0 ++ big_bytes 2 MISS_LENGTH)
     ∷ (map (λ other. own_mod Add (catching_rule other)) (other_tags tag in_use) ++ own_mod Add mark_rule ∷ own_barrier ∷ [])
 
 -- the PACKET_OUT of a probe, for the neighbour's port
@@ -152,7 +161,7 @@ probe_frame key serial port h = packet_out_of port (rendered h (record { key = k
 
 -- the header of the probe in a PACKET_OUT, which came in where its emission says
 abbrev pub header_read : Read → ℕ → Header
-header_read None in_port = record nothing { in_port = in_port }
+header_read None in_port = record BLANK { in_port = in_port }
 header_read (Some found) in_port = record found.0 { in_port = in_port }
 
 abbrev pub header_of_probe : List ℕ → Emission → Header

@@ -15,7 +15,7 @@ ghost use Rattle.mon_legal.specs.Sides.{AllFramesGoOn, AllFramesWentOn, IsProxys
 ghost use Rattle.mon_legal.specs.Offering.{JobsAreOffered};
 ghost use Rattle.mon_legal.specs.Truths.{AnswersAreTrue};
 ghost use Rattle.mon_legal.specs.Stale.{StaleAreIgnored};
-ghost use Rattle.mon_legal.specs.Story.{run, at_67};
+ghost use Rattle.mon_legal.specs.Story.{run, the_ordinary_use};
 
 /// A legal history is one so far.
 pub fn legal_is_legal_so_far()
@@ -25,7 +25,7 @@ pub fn legal_is_legal_so_far()
 /// Three switches are armed, an ADD is passed and probed, its probe comes back, and the reply to a barrier goes: that
 /// history is legal, so the lines ask for nothing impossible.
 pub fn the_ordinary_use_is_legal()
-    ensures { Legal run (shown at_67) }
+    ensures { Legal run (shown the_ordinary_use) }
 {}
 
 /// Where everything comes in its order, all frames of each side go on in their order: each is handled once, what the
