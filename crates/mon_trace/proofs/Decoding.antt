@@ -58,12 +58,12 @@ all_in-more total more [] all le = tt
 all_in-more total more (place ∷ places) all le = (in_more total more place all.0 le, all_in-more total more places all.1 le)
 
 -- the text and the places with one entry more
-pub record IsGrown (text line : List ℕ) (places more : List Output) (placed : Placed) : Type 0 where
+record IsGrown (text line : List ℕ) (places more : List Output) (placed : Placed) : Type 0 where
   pub view : entries_in (text ++ line) (reverse more) ≡ placed ∷ entries_in text (reverse places)
   pub within : AllIn (length (text ++ line)) (reverse more)
   pub printed : text ++ line ≡ lines_text (entries_in (text ++ line) (reverse more))
 
-pub grown : (text line : List ℕ) (places more : List Output) (placed : Placed) (place : Output) → line ≡ line_of placed.number placed.entry → IsPlaceIn (length text) line placed place → more ≡ places ++ place ∷ [] → AllIn (length text) (reverse places) → text ≡ lines_text (entries_in text (reverse places)) → IsGrown text line places more placed
+grown : (text line : List ℕ) (places more : List Output) (placed : Placed) (place : Output) → line ≡ line_of placed.number placed.entry → IsPlaceIn (length text) line placed place → more ≡ places ++ place ∷ [] → AllIn (length text) (reverse places) → text ≡ lines_text (entries_in text (reverse places)) → IsGrown text line places more placed
 grown text line places more placed place line_is is_placed more_is all printed =
     let newest : reverse more ≡ place ∷ reverse places = ap reverse more_is ∙ reverse-append places (place ∷ []) in
     let one = is_placed text refl in
@@ -76,3 +76,14 @@ grown text line places more placed place line_is is_placed more_is all printed =
       within = subst (AllIn (length (text ++ line))) (sym newest) (one.1, all_in-more (length text) (length (text ++ line)) (reverse places) all (omega (arith, length-append text line)));
       printed = ap (λ (xs : List ℕ). xs ++ line) printed ∙ ap (λ (xs : List ℕ). lines_text (entries_in text (reverse places)) ++ xs) line_is ∙ sym (ap lines_text view);
     }
+
+-- the same of a text and places that are these
+pub record IsPushed (text old : List ℕ) (places more : List Output) (placed : Placed) : Type 0 where
+  pub view : entries_in text (reverse more) ≡ placed ∷ entries_in old (reverse places)
+  pub within : AllIn (length text) (reverse more)
+  pub printed : text ≡ lines_text (entries_in text (reverse more))
+
+pub pushed : (text old line : List ℕ) (places more : List Output) (placed : Placed) (place : Output) (n : ℕ) → n ≡ length old → old ++ line ≡ text → line ≡ line_of placed.number placed.entry → IsPlaceIn n line placed place → more ≡ places ++ place ∷ [] → AllIn (length old) (reverse places) → old ≡ lines_text (entries_in old (reverse places)) → IsPushed text old places more placed
+pushed text old line places more placed place n n_is text_is line_is is_placed more_is all printed =
+    let g = grown old line places more placed place line_is (subst (λ (k : ℕ). IsPlaceIn k line placed place) n_is is_placed) more_is all printed in
+    subst (λ (t : List ℕ). IsPushed t old places more placed) text_is (record { view = g.view; within = g.within; printed = g.printed })

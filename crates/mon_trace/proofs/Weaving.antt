@@ -15,7 +15,7 @@ use Rattle.mon_world.specs.declared.history.Entry.TheVariants.{Given, Noted, Put
 use Rattle.mon_world.specs.Logs.{inputs, opened_in, opened_by, entry_of, AllNamed, NamesOpened, IsOpenGate}
 use Rattle.mon_trace.specs.Grammar.{Recorded, Traced}
 use Rattle.mon_trace.specs.Run.{event_at, event_or_stop, events_of, mark_of, the_event, losing_before, losing_or, number_of, line_of, text, lost_in, jobs_after, unanswered, is_lost, lost_after, IsRefused, IsNextBad, WasBad, Running}
-use Rattle.mon_trace.specs.Outputs.{Placed}
+use Rattle.mon_trace.specs.Outputs.{Placed, lines_text}
 use Rattle.mon_trace.specs.Woven.{IsRun, InOrder, woven, given_from}
 
 given_more : (events : List Recorded) (from n : ℕ) → from ≤ n → given_from events from (suc n) ≡ Given (event_at events n) ∷ given_from events from n
@@ -92,7 +92,7 @@ lost_one : (session : ℕ) (to : Side) (frame : List ℕ) (lost : Bool) (h : Lis
 lost_one session to frame true h = refl
 lost_one session to frame false h = refl
 
-pub run_taken : (t : Traced) (n losing lost jobs number : ℕ) (printed : List ℕ) (h : List Entry) (out : Out) → IsRun t n losing lost jobs printed h → number ≡ n + losing
+run_taken : (t : Traced) (n losing lost jobs number : ℕ) (printed : List ℕ) (h : List Entry) (out : Out) → IsRun t n losing lost jobs printed h → number ≡ n + losing
     → IsRun t n losing (lost_after (is_lost out (nat_lt lost losing)) lost) jobs (printed ++ line_of number (entry_of (is_lost out (nat_lt lost losing)) out)) (entry_of (is_lost out (nat_lt lost losing)) out ∷ h)
 run_taken t n losing lost jobs number printed h (Send session to frame) run is = record {
   count = run.count;
@@ -114,6 +114,15 @@ run_taken t n losing lost jobs number printed h (Close session) run is = record 
   lost_is = run.lost_is;
   jobs_are = run.jobs_are;
 }
+
+-- an output, lost or not, and how many are lost then
+pub run_put : (t : Traced) (n losing lost kept jobs number : ℕ) (printed : List ℕ) (h : List Entry) (out : Out) (b : Bool) → b ≡ is_lost out (nat_lt lost losing) → lost_after b lost ≡ kept
+    → IsRun t n losing lost jobs printed h → number ≡ n + losing
+    → IsRun t n losing kept jobs (printed ++ line_of number (entry_of b out)) (entry_of b out ∷ h)
+run_put t n losing lost kept jobs number printed h out b is now run numbered =
+    subst (λ (k : ℕ). IsRun t n losing k jobs (printed ++ line_of number (entry_of b out)) (entry_of b out ∷ h)) now
+    (subst (λ (x : Bool). IsRun t n losing (lost_after x lost) jobs (printed ++ line_of number (entry_of x out)) (entry_of x out ∷ h)) (sym is)
+    (run_taken t n losing lost jobs number printed h out run numbered))
 
 pub run_noted : (t : Traced) (n losing lost jobs number : ℕ) (printed : List ℕ) (h : List Entry) (note : Note) → IsRun t n losing lost jobs printed h → number ≡ n + losing
     → IsRun t n losing lost (jobs_after note jobs) (printed ++ line_of number (Noted note)) (Noted note ∷ h)
@@ -138,6 +147,25 @@ was_more t (Some offset) entry h was = record {
   log_is = ap (λ (k : List Entry). entry ∷ k) was.log_is;
   is_bad = was.is_bad;
 }
+
+-- what a hub keeps of its outputs
+pub record Keeps (t : Traced) (n losing lost jobs : ℕ) (bad : Option ℕ) (outs : List Placed) : Type 0 where
+  pub order : InOrder n outs
+  pub run : IsRun t n losing lost jobs (lines_text outs) (woven t.events n outs)
+  pub was_bad : IfSome bad (λ offset. WasBad t offset (woven t.events n outs))
+
+-- it keeps it of one output more, whose line and entry the run has
+pub keeps_more : (t : Traced) (n losing lost jobs number : ℕ) (bad : Option ℕ) (entry : Entry) (before outs : List Placed) → InOrder n before → IfSome bad (λ offset. WasBad t offset (woven t.events n before))
+    → outs ≡ record { after = n; number = number; entry = entry } ∷ before
+    → IsRun t n losing lost jobs (lines_text before ++ line_of number entry) (entry ∷ woven t.events n before)
+    → Keeps t n losing lost jobs bad outs
+keeps_more t n losing lost jobs number bad entry before outs order was pushed run =
+    let more = woven_taken t.events n number entry before in
+    subst (Keeps t n losing lost jobs bad) (sym pushed) (record {
+      order = (omega arith, order);
+      run = subst (λ (h : List Entry). IsRun t n losing lost jobs (lines_text before ++ line_of number entry) h) (sym more) run;
+      was_bad = subst (λ (h : List Entry). IfSome bad (λ offset. WasBad t offset h)) (sym more) (was_more t bad entry (woven t.events n before) was);
+    })
 
 abbrev offset_in : ℕ → Option (ℕ × ℕ) → ℕ
 offset_in other None = other

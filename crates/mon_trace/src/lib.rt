@@ -16,6 +16,7 @@ mod events;
 mod grammar;
 mod hexadecimal;
 mod hub;
+pub mod laws;
 mod lines;
 mod outputs;
 mod printing;

@@ -47,57 +47,49 @@ fn reads_a_trace(rt: HostRuntime) -> Result<(), Fail> {
     Ok(())
 }
 
+/// First lines that are none.
+const NAMES: [&[u8]; 5] = [
+    b"",
+    b"monocle-trace 1 00000000000000ff",
+    b"monocle-trace 1 0000000000000ff\n",
+    b"monocle-trace 1 00000000000000FF\n",
+    b"monocle-trace 2 00000000000000ff\n",
+];
+
+/// Records, and where the first one that is none begins in the text.
+const BROKEN: [(&[u8], u64); 15] = [
+    (b"open", 33),
+    (b"open\r\n", 33),
+    (b"\n", 33),
+    (b"from switch 0 00\n", 33),
+    (b"tick \n", 33),
+    (b"answer 4294967296\n", 33),
+    (b"loses\n", 33),
+    (b"open\nfrom controller 0 0\n", 38),
+    (b"open\nfrom controller 0 0A\n", 38),
+    (b"open\nfrom controller 0 \n", 38),
+    (b"open\nfrom controller 1 00\n", 38),
+    (b"open\nfrom controller 00 00\n", 38),
+    (b"open\nfrom switch 0 00 \n", 38),
+    (b"open\nclose 1\n", 38),
+    (b"open\nclose 0", 38),
+];
+
+/// Whether what was read is bad from this byte on.
+fn is_bad_at(read: Result<Trace, TraceFault>, offset: u64) -> bool {
+    read.err() == Some(TraceFault::Bad { offset })
+}
+
 #[test]
 fn says_where_a_text_is_no_trace(rt: HostRuntime) -> Result<(), Fail> {
     let alloc = rt.alloc();
-    let texts: [&[u8]; 5] = [
-        b"",
-        b"monocle-trace 1 00000000000000ff",
-        b"monocle-trace 1 0000000000000ff\n",
-        b"monocle-trace 1 00000000000000FF\n",
-        b"monocle-trace 2 00000000000000ff\n",
-    ];
-    for text in texts {
-        assert_eq!(rt;
-            read_trace(alloc, text).err(),
-            Some(TraceFault::Bad { offset: 0 })
-        );
+    for name in NAMES {
+        assert!(rt; is_bad_at(read_trace(alloc, name), 0));
     }
-    let first: [&[u8]; 7] = [
-        b"open",
-        b"open\r\n",
-        b"\n",
-        b"from switch 0 00\n",
-        b"tick \n",
-        b"answer 4294967296\n",
-        b"loses\n",
-    ];
-    for text in first {
-        assert_eq!(rt;
-            with_records(alloc, text).err(),
-            Some(TraceFault::Bad { offset: 33 })
-        );
+    for (records, offset) in BROKEN {
+        assert!(rt; is_bad_at(with_records(alloc, records), offset));
     }
-    let second: [&[u8]; 8] = [
-        b"open\nfrom controller 0 0\n",
-        b"open\nfrom controller 0 0A\n",
-        b"open\nfrom controller 0 \n",
-        b"open\nfrom controller 1 00\n",
-        b"open\nfrom controller 00 00\n",
-        b"open\nfrom switch 0 00 \n",
-        b"open\nclose 1\n",
-        b"open\nclose 0",
-    ];
-    for text in second {
-        assert_eq!(rt;
-            with_records(alloc, text).err(),
-            Some(TraceFault::Bad { offset: 38 })
-        );
-    }
-    assert_eq!(rt;
-        with_piece(alloc, 4097).err(),
-        Some(TraceFault::Bad { offset: 38 })
-    );
+    assert!(rt; is_bad_at(with_piece(alloc, 4097), 38));
     Ok(())
 }
 
@@ -109,6 +101,11 @@ fn stops(alloc: Global, hub: &mut TraceHub, count: u64) -> bool {
         stopped = matches!(hub.next(alloc, &gates), Ok(Event::Stop));
     }
     stopped
+}
+
+/// Whether the text of the hub's history is this one.
+fn writes(hub: TraceHub, text: &[u8]) -> bool {
+    hub.text().as_slice() == text
 }
 
 fn send(alloc: Global, to: Side, kind: u8, xid: u32, body: &[u8]) -> Result<Out, OutOfMemory>
@@ -137,10 +134,8 @@ fn writes_a_line_for_each_output(rt: HostRuntime) -> Result<(), Fail> {
     hub.put(alloc, &send(alloc, Side::Switch, 2, 2, b"")?)?;
     assert!(rt; stops(alloc, &mut hub, 1));
     assert!(rt; stops(alloc, &mut hub, 1));
-    assert_eq!(rt;
-        hub.text().as_slice(),
-        b"9 put 0 switch 0100000800000001\n17 put 0 switch 0102000800000002\n".as_slice()
-    );
+    let text = b"9 put 0 switch 0100000800000001\n17 put 0 switch 0102000800000002\n";
+    assert!(rt; writes(hub, text));
     Ok(())
 }
 
@@ -154,10 +149,9 @@ fn loses_what_the_trace_says(rt: HostRuntime) -> Result<(), Fail> {
     hub.put(alloc, &Out::Close { session: 0 })?;
     assert_eq!(rt; hub.put(alloc, &out), Err(PutFault::Lost));
     hub.put(alloc, &out)?;
-    assert_eq!(rt;
-        hub.text().as_slice(),
-        b"3 end 0\n3 lost 0 controller 010a000b00000000abcdef\n3 put 0 controller 010a000b00000000abcdef\n".as_slice()
-    );
+    let text =
+        b"3 end 0\n3 lost 0 controller 010a000b00000000abcdef\n3 put 0 controller 010a000b00000000abcdef\n";
+    assert!(rt; writes(hub, text));
     Ok(())
 }
 
@@ -193,10 +187,9 @@ fn gives_no_answer_of_a_job_that_is_not_there(rt: HostRuntime) -> Result<(), Fai
             cause: Cause::Peer,
         }),
     )?;
-    assert_eq!(rt;
-        hub.text().as_slice(),
-        b"1 offer 1 0 2 3\n2 verdict 1 skipped\n2 line {\"cause\":\"peer\",\"event\":\"closed\",\"session\":0}\n".as_slice()
-    );
+    let text =
+        b"1 offer 1 0 2 3\n2 verdict 1 skipped\n2 line {\"cause\":\"peer\",\"event\":\"closed\",\"session\":0}\n";
+    assert!(rt; writes(hub, text));
     Ok(())
 }
 

@@ -26,27 +26,25 @@ invariant_of-self-in_err-push c =
 
 pub invariant_of-self-2 : goal.invariant_of-self-2
 invariant_of-self-2 c =
-    let inside = c.self.inside in
-    let old = inside.bytes.items in
+    let old = c.self.inside.bytes.items in
     let new = c.push_bytes.new.out.items in
     let size = c.len.result - c.len-start.result in
     let start : c.len-start.result ≡ length old = search rules in
     let end : c.len.result ≡ length new = search rules in
-    let grown : c.push.new.self.items ≡ inside.places.items ++ record { offset = c.args.offset; losing = c.args.losing; deed = Bytes c.args.side size c.len-start.result c.args.session } ∷ [] = search rules in
+    let grown : c.push.new.self.items ≡ c.self.inside.places.items ++ record { offset = c.args.offset; losing = c.args.losing; deed = Bytes c.args.side size c.len-start.result c.args.session } ∷ [] = search rules in
     subst (AllWithin (length new)) (sym grown)
-    (all_within-append (length new) inside.places.items (record { offset = c.args.offset; losing = c.args.losing; deed = Bytes c.args.side size c.len-start.result c.args.session } ∷ []) (all_within-more (length old) (length new) inside.places.items c.self.invariant c.push_bytes.ensures.longer) ((omega (arith, c.if-size-eq0.false), omega (arith, c.if-size-gt-LARGEST_PIECE.false), omega (arith, start, end, c.push_bytes.ensures.longer)), tt))
+    (all_within-append (length new) c.self.inside.places.items (record { offset = c.args.offset; losing = c.args.losing; deed = Bytes c.args.side size c.len-start.result c.args.session } ∷ []) (all_within-more (length old) (length new) c.self.inside.places.items c.self.invariant c.push_bytes.ensures.longer) ((omega (arith, c.if-size-eq0.false), omega (arith, c.if-size-gt-LARGEST_PIECE.false), omega (arith, start, end, c.push_bytes.ensures.longer)), tt))
 
 pub returns : goal.returns
 returns c =
-    let inside = c.self.inside in
-    let old = inside.bytes.items in
+    let old = c.self.inside.bytes.items in
     let new = c.push_bytes.new.out.items in
     let size = c.len.result - c.len-start.result in
     let start : c.len-start.result ≡ length old = search rules in
     let end : c.len.result ≡ length new = search rules in
-    let grown : c.push.new.self.items ≡ inside.places.items ++ record { offset = c.args.offset; losing = c.args.losing; deed = Bytes c.args.side size (length old) c.args.session } ∷ [] = search rules in
+    let grown : c.push.new.self.items ≡ c.self.inside.places.items ++ record { offset = c.args.offset; losing = c.args.losing; deed = Bytes c.args.side size (length old) c.args.session } ∷ [] = search rules in
     let total : length old + size ≡ length new = omega (arith, start, end, c.push_bytes.ensures.longer) in
     let read = unhex c.args.digits.now in
     ap (λ (events : List Recorded). onto events (one c.args.offset c.args.losing (piece_of c.args.side c.args.session read))) (sym c.self.view_is)
-    ∙ pushed_piece c.args.offset c.args.losing c.args.session c.args.side read old new inside.places.items size c.in_ok-push_bytes.ensures.value c.self.invariant total (omega (arith, c.if-size-eq0.false)) (omega (arith, c.if-size-gt-LARGEST_PIECE.false))
+    ∙ pushed_piece c.args.offset c.args.losing c.args.session c.args.side read old new c.self.inside.places.items size c.in_ok-push_bytes.ensures.value c.self.invariant total (omega (arith, c.if-size-eq0.false)) (omega (arith, c.if-size-gt-LARGEST_PIECE.false))
     ∙ ap (λ (places : List Place). Some (events_at new places)) (sym grown)

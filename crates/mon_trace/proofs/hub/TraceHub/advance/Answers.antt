@@ -35,12 +35,10 @@ invariant_of-self c =
 pub returns : goal.returns
 returns c =
     let inside = c.self.inside in
-    let inv = c.self.invariant in
     let t = inside.trace in
     let n = inside.given in
-    let before = woven t.events n inside.outputs in
-    let next : suc n ≡ c.args.given = omega (arith, c.requires.given, ap (λ (r : Running). length (inputs r.log)) c.self.view_is, inv.run.count) in
+    let next : suc n ≡ c.args.given = omega (arith, c.requires.given, ap (λ (r : Running). length (inputs r.log)) c.self.view_is, c.self.invariant.run.count) in
     ap (λ (k : ℕ). running t (woven t.events k inside.outputs) (reverse inside.calls.items) inside.faults inside.bad) (sym next)
-    ∙ ap (λ (h : List Entry). running t h (reverse inside.calls.items) inside.faults inside.bad) (woven_given t.events n inside.outputs inv.order)
-    ∙ ap (λ (k : ℕ). running t (Given (event_at t.events k) ∷ before) (reverse inside.calls.items) inside.faults inside.bad) inv.run.count
+    ∙ ap (λ (h : List Entry). running t h (reverse inside.calls.items) inside.faults inside.bad) (woven_given t.events n inside.outputs c.self.invariant.order)
+    ∙ ap (λ (k : ℕ). running t (Given (event_at t.events k) ∷ woven t.events n inside.outputs) (reverse inside.calls.items) inside.faults inside.bad) c.self.invariant.run.count
     ∙ ap (λ (r : Running). record r { log = Given (event_at r.trace.events (length (inputs r.log))) ∷ r.log }) c.self.view_is
