@@ -1,0 +1,10 @@
+mod Steps
+mod Tables
+mod Rejected
+mod Whole
+mod GoesOn
+mod Planning
+mod Names
+mod Versions
+mod Owing
+mod UnderWays

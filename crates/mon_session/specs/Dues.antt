@@ -1,0 +1,48 @@
+-- What has to follow directly what a session takes, by what the session keeps.
+use Rattle.std.specs.Prelude.{ℕ, Bool, true, false, not, ◌&&◌, if◌then◌else◌, List, [], ◌∷◌, ◌++◌, Option, Some, None}
+use Rattle.std.specs.List.{list_any}
+use Rattle.of_msgs.specs.Layout.{datapath_of}
+use Rattle.mon_barriers.specs.declared.barriers.Asker.{Asker}
+use Rattle.mon_barriers.specs.declared.barriers.Asker.TheVariants as asker
+use Rattle.mon_report.specs.declared.line.What.TheVariants as what
+use Rattle.mon_report.specs.declared.line.Cause.TheVariants as cause
+use Rattle.mon_world.specs.declared.event.Side.TheVariants.{Controller, Switch}
+use Rattle.mon_legal.specs.Runs.{Run}
+use Rattle.mon_legal.specs.Messages.{is_barrier_reply, is_error, is_own_error, features_request}
+use Rattle.mon_legal.specs.Edits.{is_number, rejected_by}
+use Rattle.mon_legal.specs.Directly.{Due, fact, refused_reply, ends_or_arms, armed_line, is_return, ends_in}
+use Rattle.mon_legal.specs.Directly.Due.{Frame, Ending}
+use Rattle.mon_session.specs.Now.{Now, is_reply, answered}
+
+-- the answer to a barrier
+abbrev pub barrier_dues : Run → ℕ → Now → List ℕ → Option Asker → List Due
+barrier_dues run s n frame None = Frame Controller frame ∷ []
+barrier_dues run s n frame (Some asker.Arming) = armed_line run s n.datapath
+barrier_dues run s n frame (Some (asker.Own k)) = if list_any (is_number k) n.unsettled then fact s k what.Settled ∷ [] else []
+barrier_dues run s n frame (Some (asker.Controller edits)) = []
+
+-- an ERROR, and the edit that it rejects
+abbrev pub error_dues : ℕ → Bool → List ℕ → Option ℕ → List Due
+error_dues s armed frame (Some k) = Frame Controller frame ∷ fact s k what.Rejected ∷ []
+error_dues s armed frame None =
+    if is_own_error frame then (if armed then [] else Ending cause.NotArmed ∷ []) else Frame Controller frame ∷ []
+
+-- a frame of the switch; `taken` are the datapaths of the other open sessions
+unfoldable pub switch_dues : Run → ℕ → List ℕ → Now → List ℕ → List Due
+switch_dues run s taken n frame =
+    if is_reply n frame then ends_or_arms run (datapath_of frame) (refused_reply run taken (datapath_of frame))
+    else (if is_barrier_reply frame then barrier_dues run s n frame (answered n frame)
+    else (if is_error frame then error_dues s n.armed frame (rejected_by frame n.unsettled)
+    else (if is_return run frame then []
+    else Frame Controller frame ∷ [])))
+
+abbrev pub request_if : Bool → List Due → List Due
+request_if true dues = dues ++ Frame Switch features_request ∷ []
+request_if false dues = dues
+
+-- the switch is asked for its features behind its first frame
+abbrev pub with_request : Now → List Due → List Due
+with_request n dues = request_if (not n.greeted && not (ends_in dues)) dues
+
+abbrev pub dues_from_switch : Run → ℕ → List ℕ → Now → List ℕ → List Due
+dues_from_switch run s taken n frame = with_request n (switch_dues run s taken n frame)

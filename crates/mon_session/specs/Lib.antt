@@ -1,0 +1,12 @@
+pub mod Now
+pub mod Runs
+pub mod Walks
+pub mod Passing
+pub mod UnderWay
+pub mod Ordered
+pub mod Beginning
+pub mod Entries
+pub mod Dues
+pub mod Standing
+pub mod Going
+pub mod Planning

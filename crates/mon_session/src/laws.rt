@@ -1,0 +1,37 @@
+//! That what a session keeps stands for its history. These functions do nothing: each is its law.
+
+ghost use Rattle.mon_session.specs.Going.{StandingGoesOn};
+ghost use Rattle.mon_session.specs.Planning.{PlannedAtFirst, PlannedBehind, PlannedWithout};
+ghost use Rattle.mon_session.specs.Standing.{Rejecting, StepsStand, FramesOwe, OpeningBegins};
+
+/// What a session keeps is what its history says: one entry more is one step more.
+pub fn a_step_is_an_entry()
+    ensures { StepsStand }
+{}
+
+/// The table of the edits that are left, once one is rejected, is the current table with that edit taken back.
+pub fn a_rejected_edit_is_taken_back()
+    ensures { Rejecting }
+{}
+
+/// Edits that stand well do so after each entry, where an edit that goes out is passed well.
+pub fn standing_goes_on()
+    ensures { StandingGoesOn }
+{}
+
+/// The edits of a planned frame are what they were planned as until they pass: the old rule stands, or was unsure and vanished.
+pub fn planned_edits_stay()
+    ensures planned { PlannedAtFirst }
+    ensures behind { PlannedBehind }
+    ensures vanished { PlannedWithout }
+{}
+
+/// What a session begins with is what its opening says.
+pub fn an_opening_begins_a_session()
+    ensures { OpeningBegins }
+{}
+
+/// What a frame of the switch makes due by what the session keeps is what the history says.
+pub fn frames_of_the_switch_owe_what_the_history_says()
+    ensures { FramesOwe }
+{}
