@@ -8,3 +8,5 @@ mod Names
 mod Versions
 mod Owing
 mod UnderWays
+mod Sound
+mod Staying

@@ -10,3 +10,4 @@ pub mod Dues
 pub mod Standing
 pub mod Going
 pub mod Planning
+pub mod Confirmed

@@ -1,5 +1,6 @@
 //! That what a session keeps stands for its history. These functions do nothing: each is its law.
 
+ghost use Rattle.mon_session.specs.Confirmed.{OthersStay, ConfirmationIsSound};
 ghost use Rattle.mon_session.specs.Going.{StandingGoesOn};
 ghost use Rattle.mon_session.specs.Planning.{PlannedAtFirst, PlannedBehind, PlannedWithout};
 ghost use Rattle.mon_session.specs.Standing.{Rejecting, StepsStand, FramesOwe, OpeningBegins};
@@ -34,4 +35,11 @@ pub fn an_opening_begins_a_session()
 /// What a frame of the switch makes due by what the session keeps is what the history says.
 pub fn frames_of_the_switch_owe_what_the_history_says()
     ensures { FramesOwe }
+{}
+
+/// What a probe shows that separated the expected table from the one without its edit comes from no table that is possible and
+/// lacks the edit, as long as that is unsettled, whatever was passed, rejected, settled or vanished since.
+pub fn a_confirmation_is_sound()
+    ensures others { OthersStay }
+    ensures sound { ConfirmationIsSound }
 {}

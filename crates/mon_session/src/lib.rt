@@ -24,8 +24,9 @@ mod unsettled;
 
 pub use around::{Around, Neighbour, Neighbours};
 pub use laws::{
-    a_rejected_edit_is_taken_back, a_step_is_an_entry, an_opening_begins_a_session,
-    frames_of_the_switch_owe_what_the_history_says, planned_edits_stay, standing_goes_on,
+    a_confirmation_is_sound, a_rejected_edit_is_taken_back, a_step_is_an_entry,
+    an_opening_begins_a_session, frames_of_the_switch_owe_what_the_history_says,
+    planned_edits_stay, standing_goes_on,
 };
 pub use mon_list::OutOfMemory;
 pub use session::Session;
