@@ -1,6 +1,7 @@
 -- How the parts of a run end it.
 use Rattle.std.proofs.Common.{◌≡◌, ◌<◌, ℕ, Bool, true, false, List, [], ◌∷◌, ◌++◌, Option, Some, None, Ok, Err, IfSome, inl, inr, refl, sym, ap, subst, ◌∙◌, codes}
 use Rattle.mon_trace.specs.Grammar.{Traced, trace_of}
+use Rattle.mon_trace.proofs.FirstBad.{first_bad}
 use Rattle.mon_words.specs.declared.command.Command.{Command}
 use Rattle.mon_words.specs.declared.command.Command.TheVariants as command
 use Rattle.mon_words.specs.declared.command.Source.{Source}
@@ -55,7 +56,7 @@ trace-end told settings trace status calls (inr want) = inr (inr (inr want))
 pub no-trace : (told : Option Contents) (settings trace before content read : List ℕ) → IfSome told (λ files. files settings ≡ Some before) → IfSome told (λ files. files trace ≡ Some content)
     → (offset : ℕ) → read ≡ content → trace_of read ≡ Err offset → IfSome told (λ files. CantRun files settings trace offset)
 no-trace None settings trace before content read first next offset same none = first
-no-trace (Some files) settings trace before content read first next offset same none = inl ((before, first), (content, next, ap trace_of (sym same) ∙ none))
+no-trace (Some files) settings trace before content read first next offset same none = inl ((before, first), (content, next, first_bad content offset (ap trace_of (sym same) ∙ none)))
 
 -- a trace that can't be run
 pub cant-run : (told : Option Contents) (settings trace : List ℕ) (x : Traced) (offset : ℕ) → IfSome told (λ files. IsTraceFile files settings trace x) → IsUnfollowed x offset → IfSome told (λ files. CantRun files settings trace offset)

@@ -38,10 +38,10 @@ count_line word n = word ++ (codes " " ++ (decimal n ++ codes "\n"))
 -- how many rules there are, and how many of each kind, a line each
 abbrev pub summary_text : Summary → List ℕ
 summary_text s =
-    codes "rules " ++ (decimal s.rules
-    ++ (codes "\nprobes " ++ (decimal s.probes
-    ++ (codes "\nindistinguishable " ++ (decimal s.indistinguishable
-    ++ (codes "\noverlap " ++ (decimal s.overlap ++ codes "\n")))))))
+    count_line (codes "rules") s.rules
+    ++ (count_line (codes "probes") s.probes
+    ++ (count_line (codes "indistinguishable") s.indistinguishable
+    ++ count_line (codes "overlap") s.overlap))
 
 -- what a plan of the table writes: its summary, or where they are asked for certificates of all its rules, as they are
 -- read back

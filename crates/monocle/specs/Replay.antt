@@ -1,11 +1,13 @@
 -- What `replay` writes.
-use Rattle.std.specs.Prelude.{◌≡◌, ℕ, List, [], ◌∷◌, ◌++◌, Some, Ok, Err, ◌⊎◌, reverse}
+use Rattle.std.specs.Prelude.{◌≡◌, ℕ, List, [], ◌∷◌, ◌++◌, Some, Ok, ◌⊎◌, reverse}
 use Rattle.mon_world.specs.declared.event.Event.TheVariants.{Stop}
 use Rattle.mon_world.specs.declared.history.Entry.{Entry}
 use Rattle.mon_world.specs.Logs.{inputs}
 use Rattle.mon_core.specs.History.{Legal, LegalSoFar}
 use Rattle.mon_table.specs.declared.rule.Rule.{Rule}
 use Rattle.mon_core.specs.Streams.{AtTurnEnds, IsPassed, armed_in}
+use Rattle.mon_text.specs.BadLines.{IsFirstBadLine}
+use Rattle.mon_trace.specs.Broken.{IsTrace}
 use Rattle.mon_trace.specs.Grammar.{Traced, trace_of}
 use Rattle.mon_trace.specs.Run.{text, events_of, LosesBy, WasBad}
 use Rattle.mon_trace.specs.ToCome.{first_other}
@@ -38,9 +40,9 @@ IsFile files name = (content : List ℕ) × (files name ≡ Some content)
 abbrev pub IsTraceFile : Contents → List ℕ → List ℕ → Traced → Type 0
 IsTraceFile files settings name traced = IsFile files settings × ((content : List ℕ) × (files name ≡ Some content) × (trace_of content ≡ Ok traced))
 
--- the file of this name is no trace from a line on; the settings were there
+-- the file of this name is no trace, and its first bad line begins at the offset; the settings were there
 abbrev pub IsNoTrace : Contents → List ℕ → List ℕ → ℕ → Type 0
-IsNoTrace files settings name offset = IsFile files settings × ((content : List ℕ) × (files name ≡ Some content) × (trace_of content ≡ Err offset))
+IsNoTrace files settings name offset = IsFile files settings × ((content : List ℕ) × (files name ≡ Some content) × IsFirstBadLine IsTrace content offset)
 
 -- the first record that a replay does not follow yet begins at the offset; or one there could not be given in a run
 abbrev pub IsUnfollowed : Traced → ℕ → Type 0

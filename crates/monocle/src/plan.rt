@@ -1,9 +1,9 @@
 //! `plan`: which rules of a table a packet can show.
 
-ghost use Rattle.std.specs.Prelude.{◌≡◌, ◌≢◌, IfOk, string_bytes};
+ghost use Rattle.std.specs.Prelude.{◌≡◌, ◌≢◌, ◌++◌, IfOk, OnOk, string_bytes};
 ghost use Rattle.mon_world.specs.Causes.{Rose};
 ghost use Rattle.mon_words.specs.declared.command.Command.{Command};
-ghost use Rattle.monocle.specs.Planning.{IsPlan, summary_text};
+ghost use Rattle.monocle.specs.Planning.{IsPlan, count_line, summary_text};
 ghost use Rattle.monocle.specs.Running.{Plans};
 ghost use Rattle.monocle.specs.Calls.{Called};
 ghost use Rattle.monocle.specs.Ending.{IsEndOf};
@@ -18,14 +18,24 @@ use mon_world::{Desk, OutOfMemory};
 use std::alloc::Global;
 use std::thread::Threads;
 
+/// Appends a word and a number, in a line of their own.
+fn push_count(alloc: Global, text: &mut String, word: &str, n: u32) -> Result<(), OutOfMemory>
+    ensures { OnOk result (string_bytes text.new ≡ string_bytes text.old ++ count_line word.now n) }
+{
+    let line = format!(in alloc; "{word} {n}\n")?;
+    text.push_str(&line)?;
+    Ok(())
+}
+
 /// A line for each number of a summary.
 fn summary_text(alloc: Global, s: &Summary) -> Result<String, OutOfMemory>
     ensures { IfOk result (λ text. string_bytes text ≡ summary_text s.now) }
 {
-    let text = format!(in alloc;
-        "rules {}\nprobes {}\nindistinguishable {}\noverlap {}\n",
-        s.rules, s.probes, s.indistinguishable, s.overlap
-    )?;
+    let mut text = String::new(alloc);
+    push_count(alloc, &mut text, "rules", s.rules)?;
+    push_count(alloc, &mut text, "probes", s.probes)?;
+    push_count(alloc, &mut text, "indistinguishable", s.indistinguishable)?;
+    push_count(alloc, &mut text, "overlap", s.overlap)?;
     Ok(text)
 }
 
