@@ -2,6 +2,7 @@
 use Rattle.mon_session.specs.Standing.{StepsStand}
 use Rattle.mon_session.proofs.Rejected.{rejecting}
 use Rattle.mon_session.proofs.Steps.{armed_stands, kept_stands, waiting_stands, miss_stands, count_stands, asked_stands, askers_stand, reported_stands, out_stands, guards_stand, planned_stands, catching_stands, greeted_stands, known_stands, postponed_stands, datapath_stands, under_way_stands}
+use Rattle.mon_session.proofs.Tracking.{tracks_stand, watching_stands}
 use Rattle.mon_session.proofs.Names.{name_stands}
 use Rattle.mon_session.proofs.Versions.{version_stands}
 use Rattle.mon_session.proofs.Tables.{table_stands, unsettled_stands}
@@ -21,7 +22,9 @@ steps_stand run earlier own o good named =
     let k = waiting_stands run earlier own o in
     let l = postponed_stands run earlier own o in
     let m = miss_stands run earlier own o in
+    let n = tracks_stand run earlier own o good in
     let q = under_way_stands run earlier own o in
+    let r = watching_stands run earlier own o in
     let p = reported_stands run earlier own o in
     let s = out_stands own o in
     let t = name_stands run earlier own o named in

@@ -23,6 +23,8 @@ begun version = record {
   planned = 0;
   postponed = [];
   miss = 128;
+  tracks = [];
+  watching = record { watch = None; last = None; round = 0 };
   reported = None;
   out = None;
   name = None;

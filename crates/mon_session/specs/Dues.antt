@@ -8,10 +8,12 @@ use Rattle.mon_report.specs.declared.line.What.TheVariants as what
 use Rattle.mon_report.specs.declared.line.Cause.TheVariants as cause
 use Rattle.mon_world.specs.declared.event.Side.TheVariants.{Controller, Switch}
 use Rattle.mon_legal.specs.Runs.{Run}
+use Rattle.mon_legal.specs.Owns.{Own}
+use Rattle.mon_legal.specs.Owns.Own.{Sends, Reports}
 use Rattle.mon_legal.specs.Messages.{is_barrier_reply, is_error, is_own_error, features_request}
 use Rattle.mon_legal.specs.Edits.{is_number, rejected_by}
 use Rattle.mon_legal.specs.Directly.{Due, fact, refused_reply, ends_or_arms, armed_line, is_return, ends_in}
-use Rattle.mon_legal.specs.Directly.Due.{Frame, Ending}
+use Rattle.mon_legal.specs.Directly.Due.{Frame, Tells, Ending}
 use Rattle.mon_session.specs.Now.{Now, is_reply, answered}
 
 -- the answer to a barrier
@@ -46,3 +48,13 @@ with_request n dues = request_if (not n.greeted && not (ends_in dues)) dues
 
 abbrev pub dues_from_switch : Run → ℕ → List ℕ → Now → List ℕ → List Due
 dues_from_switch run s taken n frame = with_request n (switch_dues run s taken n frame)
+
+-- the entries that meet them, as far as the session makes them itself
+abbrev pub meets : Due → List Own
+meets (Frame to frame) = Sends to frame false ∷ []
+meets (Tells line) = Reports line ∷ []
+meets due = []
+
+abbrev pub met : List Due → List Own
+met [] = []
+met (due ∷ dues) = meets due ++ met dues

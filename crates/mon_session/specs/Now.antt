@@ -16,13 +16,18 @@ use Rattle.mon_world.specs.declared.event.Side.TheVariants.{Switch}
 use Rattle.mon_legal.specs.Runs.{Run}
 use Rattle.mon_legal.specs.Changing.{plus_if, with_if, drop_if}
 use Rattle.mon_legal.specs.Owns.{Own}
-use Rattle.mon_legal.specs.Owns.Own.{Begins, From_controller, From_switch, Ticks, Neighbour, Acts, Sends, Reports, Ends}
+use Rattle.mon_legal.specs.Owns.Own.{Begins, From_controller, From_switch, Ticks, Judged, Neighbour, Acts, Offers, Probes, Goes_out, Sends, Reports, Ends}
 use Rattle.mon_legal.specs.Owns.Act.{Closing, Reply, Plan, Step}
 use Rattle.mon_legal.specs.Messages.{is_light, is_vanished, identity_gone, is_features_reply, is_barrier_request, is_barrier_reply}
 use Rattle.mon_legal.specs.Barriers.{own_or_controllers, first_asker, own_edit, is_arming, is_barriered, kept_if, requests, count, named, identity_with, guards, edit_out, unanswered, is_armed, kept, just_reported}
 use Rattle.mon_legal.specs.Edits.{Passed, is_number, changes_nothing, entries, unsettled, mark_reported, older, rejected_by, unsure_at}
 use Rattle.mon_legal.specs.Held.{Part, Postponed, fate, with_change, without_closing, waiting, under_way, last_planned, postponed}
 use Rattle.mon_legal.specs.Versions.{miss_after, miss}
+use Rattle.mon_legal.specs.Probes.{Probe}
+use Rattle.mon_legal.specs.Watching.{Watching, watching, begun_if, judged_if, probed_if, carried, overrun, at_tick, without_watch}
+use Rattle.mon_outcome.specs.declared.emission.Emission.{Emission}
+use Rattle.mon_shows.specs.declared.seen.Seen.{Seen}
+use Rattle.mon_session.specs.Tracks.{Track, offered, answered_for, probed, gone_out, with_track, tracks_at, tracks_by, ticked, tracks_of}
 use Rattle.mon_legal.specs.Datapaths.{from_switch, replied, datapath, catching, catching_of}
 use Rattle.mon_legal.specs.Sessions.{changes}
 use Rattle.mon_topo.specs.Tags.{tag_of}
@@ -49,8 +54,10 @@ pub record Now : Type 0 where
   pub under_way : List Part
   pub planned : ℕ
   pub postponed : List Postponed
-  -- the miss length
+  -- the miss length, the jobs and the probes of each unsettled edit, and the watch
   pub miss : ℕ
+  pub tracks : List Track
+  pub watching : Watching
   -- what was just reported: the edit behind whose report an own barrier goes out; and the edit that the last step lets out
   pub reported : Option ℕ
   pub out : Option Edit
@@ -250,6 +257,33 @@ abbrev pub miss_now : Now → Own → ℕ
 miss_now n (Sends Switch frame lost) = miss_after frame n.miss
 miss_now n o = n.miss
 
+-- jobs and probes ------------------------------------------------------------
+
+abbrev pub probe_of : ℕ → ℕ → ℕ → Emission → Option Seen → Probe
+probe_of serial edit version emission shows =
+    record { serial = serial; edit = edit; version = version; emission = emission; shows = shows }
+
+abbrev pub tracks_after : Run → Now → Own → List Track
+tracks_after run n (Offers job edit) = map (offered edit) n.tracks
+tracks_after run n (Judged job edit kind fresh) = map (answered_for edit) n.tracks
+tracks_after run n (Probes serial edit version emission shows) = map (probed (probe_of serial edit version emission shows)) n.tracks
+tracks_after run n (Goes_out serial near frame) = map (gone_out serial near frame) n.tracks
+tracks_after run n (Sends Switch frame lost) = with_track n.out n.count n.tracks
+tracks_after run n (From_switch frame others) = tracks_at (tells n frame) (own_edit (answered n frame)) frame n.unsettled n.tracks
+tracks_after run n (Reports line) = tracks_by line n.tracks
+tracks_after run n (Ticks version) = map (ticked run.retry_ticks version) n.tracks
+tracks_after run n o = n.tracks
+
+abbrev pub watching_after : Run → Now → Own → Watching
+watching_after run n (Offers job edit) = begun_if (edit == 0) job n.table n.unsettled n.watching
+watching_after run n (Judged job edit kind fresh) = judged_if (edit == 0) job fresh n.watching
+watching_after run n (Probes serial edit version emission shows) = probed_if (edit == 0) (probe_of serial edit version emission shows) n.watching
+watching_after run n (Goes_out serial near frame) = carried serial near frame n.watching
+watching_after run n (Sends Switch frame lost) = overrun n.out n.watching
+watching_after run n (Ticks version) = at_tick run version n.armed n.watching
+watching_after run n (Reports line) = without_watch line n.watching
+watching_after run n o = n.watching
+
 -- the version ----------------------------------------------------------------
 
 -- the frame rejects an edit, or tells of an entry that vanishes
@@ -285,6 +319,8 @@ step run n o = record {
   planned = planned_after n o;
   postponed = postponed_after n o;
   miss = miss_now n o;
+  tracks = tracks_after run n o;
+  watching = watching_after run n o;
   reported = reported_after n o;
   out = out_after o;
   name = name_after n o;
@@ -319,6 +355,8 @@ now_of run earlier own = record {
   planned = last_planned own;
   postponed = postponed own;
   miss = miss own;
+  tracks = tracks_of run own (unsettled own);
+  watching = watching run own;
   reported = just_reported own;
   out = edit_out own;
   name = identity_with (just_reported own) (named own);

@@ -10,10 +10,14 @@ use Rattle.mon_table.specs.Tables.{IsTable, rule_of}
 use Rattle.mon_table.specs.Edits.{edited}
 use Rattle.mon_legal.specs.Runs.{Run}
 use Rattle.mon_legal.specs.Owns.{Own}
-use Rattle.mon_legal.specs.Owns.Own.{Begins, From_switch, Reports}
+use Rattle.mon_legal.specs.Owns.Own.{Begins, From_switch, Ticks, Returns, Judged, Offers, Probes, Reports}
 use Rattle.mon_legal.specs.Directly.{Due, owes}
 use Rattle.mon_session.specs.Beginning.{begun}
 use Rattle.mon_session.specs.Dues.{dues_from_switch}
+use Rattle.mon_session.specs.Probing.{return_dues, answer_dues, tick_dues, wanted}
+use Rattle.mon_shows.specs.declared.seen.Seen.{Seen}
+use Rattle.mon_world.specs.declared.event.Kind.{Kind}
+use Rattle.mon_legal.specs.Probes.{wanting}
 use Rattle.mon_legal.specs.Edits.{Passed, table_of, passed, is_unsettled, without_number, rejected_by}
 use Rattle.mon_legal.specs.Barriers.{count}
 use Rattle.mon_session.specs.Now.{step, now_of, taken_back, rejected_edit, reported_by}
@@ -56,9 +60,16 @@ abbrev pub AllPassedWell : List Rule → List Passed → Type 0
 AllPassedWell start [] = Unit {0}
 AllPassedWell start (p ∷ before) = IsPassedWell start p before × AllPassedWell start before
 
--- the numbers are not above the count
+-- jobs and probes are of edits that were passed, or of a watch, which has the number 0
+abbrev pub AsksPassed : ℕ → List Own → Type 0
+AsksPassed n [] = Unit {0}
+AsksPassed n (Offers job edit ∷ before) = (edit ≤ n) × AsksPassed n before
+AsksPassed n (Probes serial edit version emission shows ∷ before) = (edit ≤ n) × AsksPassed n before
+AsksPassed n (o ∷ before) = AsksPassed n before
+
+-- no number is above the count
 abbrev pub Standing : List Own → Type 0
-Standing own = AllPassedWell [] (passed own) × AllByRecursion (λ p. p.number ≤ count own) (passed own)
+Standing own = AllPassedWell [] (passed own) × AllByRecursion (λ p. p.number ≤ count own) (passed own) × AsksPassed (count own) own
 
 -- a rejected edit is taken back in the one current table, which is the table of the edits that are left
 abbrev pub Rejecting : Type 0
@@ -83,3 +94,19 @@ FramesOwe = (run : Run) (s earlier : ℕ) (dues : List Due) (own : List Own) (fr
 -- a session that was just opened is begun
 abbrev pub OpeningBegins : Type 0
 OpeningBegins = (run : Run) (earlier slot : ℕ) → now_of run earlier (Begins (Some slot) ∷ []) ≡ begun (earlier + 1)
+
+-- what a return, an answer and a tick make due is what they make due by what the session keeps, and so is the edit that wants a job
+abbrev pub ReturnsOwe : Type 0
+ReturnsOwe = (run : Run) (s earlier : ℕ) (dues : List Due) (own : List Own) (serial : ℕ) (seen : Seen) → Standing own
+    → owes run s dues own (Returns serial seen) ≡ return_dues s (now_of run earlier own) serial seen
+
+abbrev pub AnswersOwe : Type 0
+AnswersOwe = (run : Run) (s earlier : ℕ) (dues : List Due) (own : List Own) (job k : ℕ) (kind : Kind) (fresh : Bool)
+    → owes run s dues own (Judged job k kind fresh) ≡ answer_dues s (now_of run earlier own) job k kind fresh
+
+abbrev pub TicksOwe : Type 0
+TicksOwe = (run : Run) (s earlier : ℕ) (dues : List Due) (own : List Own) (version : ℕ) → Standing own
+    → owes run s dues own (Ticks version) ≡ tick_dues run s version (now_of run earlier own)
+
+abbrev pub WantsStand : Type 0
+WantsStand = (run : Run) (earlier : ℕ) (own : List Own) → wanting run own ≡ wanted (now_of run earlier own)

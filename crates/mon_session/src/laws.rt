@@ -3,7 +3,7 @@
 ghost use Rattle.mon_session.specs.Confirmed.{OthersStay, ConfirmationIsSound};
 ghost use Rattle.mon_session.specs.Going.{StandingGoesOn};
 ghost use Rattle.mon_session.specs.Planning.{PlannedAtFirst, PlannedBehind, PlannedWithout};
-ghost use Rattle.mon_session.specs.Standing.{Rejecting, StepsStand, FramesOwe, OpeningBegins};
+ghost use Rattle.mon_session.specs.Standing.{Rejecting, StepsStand, FramesOwe, OpeningBegins, ReturnsOwe, AnswersOwe, TicksOwe, WantsStand};
 
 /// What a session keeps is what its history says: one entry more is one step more.
 pub fn a_step_is_an_entry()
@@ -35,6 +35,15 @@ pub fn an_opening_begins_a_session()
 /// What a frame of the switch makes due by what the session keeps is what the history says.
 pub fn frames_of_the_switch_owe_what_the_history_says()
     ensures { FramesOwe }
+{}
+
+/// What a return, an answer and a tick make due by what the session keeps is what the history says, and so is the edit that
+/// wants a job next.
+pub fn probes_owe_what_the_history_says()
+    ensures returns { ReturnsOwe }
+    ensures answers { AnswersOwe }
+    ensures ticks { TicksOwe }
+    ensures wants { WantsStand }
 {}
 
 /// What a probe shows that separated the expected table from the one without its edit comes from no table that is possible and

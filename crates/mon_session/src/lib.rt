@@ -9,16 +9,22 @@
 //!
 //! How: unsettled edits stand in falling order of their numbers, so that one enters and leaves at an end; frames that wait
 //! are counted in bytes as they come; a frame is planned once, and its edits go out one by one.
+//!
+//! No call takes a frame yet: what stands here is what a session keeps, how it begins, and the laws.
 #![tactic(auto)]
 
 mod around;
 mod in_flight;
 mod laws;
 mod name;
+mod numbers;
 mod ordered;
+mod probe;
 mod sending;
 mod session;
 mod step;
+mod track;
+mod tracks;
 mod under_way;
 mod unsettled;
 
@@ -26,8 +32,9 @@ pub use around::{Around, Neighbour, Neighbours};
 pub use laws::{
     a_confirmation_is_sound, a_rejected_edit_is_taken_back, a_step_is_an_entry,
     an_opening_begins_a_session, frames_of_the_switch_owe_what_the_history_says,
-    planned_edits_stay, standing_goes_on,
+    planned_edits_stay, probes_owe_what_the_history_says, standing_goes_on,
 };
 pub use mon_list::OutOfMemory;
+pub use numbers::Numbers;
 pub use session::Session;
 pub use step::{Outs, SessionEnd, Step};

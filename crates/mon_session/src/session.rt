@@ -10,6 +10,7 @@ ghost use Rattle.mon_session.specs.Beginning.{opened, held_of};
 use crate::name::Name;
 use crate::ordered::Ordered;
 use crate::step::SessionEnd;
+use crate::tracks::Tracks;
 use crate::unsettled::Unsettled;
 use mon_barriers::Barriers;
 use mon_list::OutOfMemory;
@@ -34,6 +35,8 @@ pub struct Session {
     pub(crate) unsettled: Unsettled,
     pub(crate) ordered: Ordered,
     pub(crate) miss: u16,
+    pub(crate) tracks: Tracks,
+    pub(crate) round: u64,
     pub(crate) reported: Option<u64>,
     pub(crate) out: Option<Edit>,
     pub(crate) name: Option<Name>,
@@ -42,7 +45,7 @@ pub struct Session {
 }
 
 impl Model for Session {
-    ghost use Rattle.std.specs.Prelude.{[]};
+    ghost use Rattle.std.specs.Prelude.{[], None};
     ghost use Rattle.mon_session.specs.Walks.{Known};
 
     ghost Value = { Known };
@@ -67,6 +70,8 @@ impl Model for Session {
         planned = s.ordered.planned;
         postponed = [];
         miss = s.miss;
+        tracks = s.tracks;
+        watching = record { watch = None; last = None; round = s.round };
         reported = s.reported;
         out = s.out;
         name = s.name;
@@ -101,6 +106,8 @@ impl Session {
             unsettled: Unsettled::new(alloc),
             ordered: Ordered::new(alloc),
             miss: 128,
+            tracks: Tracks::new(alloc),
+            round: 0,
             reported: None,
             out: None,
             name: None,
