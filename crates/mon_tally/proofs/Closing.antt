@@ -1,5 +1,5 @@
 -- What a queue of jobs and a queue of answers say together, once nobody works.
-use Rattle.std.proofs.Common.{◌≡◌, ◌≢◌, ℕ, zero, suc, ◌+◌, ◌<◌, ◌≤◌, Bool, true, false, true≢false, List, [], ◌∷◌, ◌++◌, length, map, sym, refl, ap, ◌∙◌, subst, arith, inl, inr}
+use Rattle.std.proofs.Common.{◌≡◌, ◌≢◌, ℕ, ◌+◌, Bool, true, false, List, [], ◌∷◌, ◌++◌, map, sym, refl, ap, arith, inl, inr}
 use base.Stored.{Coded}
 use Rattle.mon_list.specs.Has.{Has}
 use Rattle.mon_tally.specs.Tallies.{weigh, AsOften, Apart}

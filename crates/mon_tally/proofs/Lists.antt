@@ -1,5 +1,5 @@
 -- What a list has, and what it has once an element was taken out.
-use Rattle.std.proofs.Common.{◌≡◌, ◌≢◌, ℕ, zero, suc, ◌+◌, ◌<◌, cond, Bool, true, false, List, [], ◌∷◌, ◌++◌, length, map, get_or, All, sym, refl, ap, ◌∙◌, subst, arith, ◌⊎◌, ⊎_elim, inl, inr, length-append}
+use Rattle.std.proofs.Common.{◌≡◌, ◌≢◌, ℕ, zero, suc, ◌+◌, ◌<◌, cond, Bool, true, false, List, [], ◌∷◌, ◌++◌, length, map, get_or, All, sym, refl, ap, subst, arith, ◌⊎◌, ⊎_elim, inl, inr, length-append}
 use Rattle.std.specs.List.{remove, filter}
 use Rattle.mon_list.specs.Has.{Has}
 use Rattle.mon_tally.specs.Tallies.{weigh, AsOften, Apart}
@@ -94,3 +94,16 @@ module _ {A B : Type 0} where
   get_or_map f [] k d e lt = absurd (omega arith)
   get_or_map f (x ∷ xs) zero d e lt = refl
   get_or_map f (x ∷ xs) (suc k) d e lt = get_or_map f xs k d e (omega arith)
+
+module _ {P : Type 0} where
+  front_at : (xs ys : List P) (k : ℕ) (d : P) → k < length xs → get_or (xs ++ ys) k d ≡ get_or xs k d
+  front_at [] ys k d lt = absurd (omega arith)
+  front_at (x ∷ xs) ys zero d lt = refl
+  front_at (x ∷ xs) ys (suc k) d lt = front_at xs ys k d (omega arith)
+
+  -- what holds of all holds of those before the last
+  pub all_front : (Q : P → Type 0) (ys xs : List P) (x : P) → ys ≡ xs ++ x ∷ [] → All Q ys → All Q xs
+  all_front Q ys xs x is all k d lt =
+      let all' : All Q (xs ++ x ∷ []) = subst (λ (l : List P). All Q l) is all in
+      let more : k < length (xs ++ x ∷ []) = omega (arith, length-append xs (x ∷ [])) in
+      subst Q (front_at xs (x ∷ []) k d lt) (all' k d more)

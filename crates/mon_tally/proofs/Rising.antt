@@ -1,7 +1,7 @@
 -- Elements with rising numbers: one more, and one less.
-use Rattle.std.proofs.Common.{◌≡◌, ℕ, zero, suc, ◌+◌, ◌<◌, ◌≤◌, ◌&&◌, ◌==◌, nat_lt, nat_le, not, cond, Bool, true, false, true≢false, List, [], ◌∷◌, ◌++◌, length, get_or, sym, refl, ap, ◌∙◌, subst, arith, eq-eqb, ne_eqb}
+use Rattle.std.proofs.Common.{◌≡◌, ℕ, zero, suc, ◌<◌, ◌≤◌, ◌&&◌, ◌==◌, nat_lt, nat_le, not, cond, Bool, true, false, true≢false, List, [], ◌∷◌, ◌++◌, length, get_or, sym, refl, ap, ◌∙◌, arith, eq-eqb}
 use Rattle.std.proofs.lemmas.Bool.Decides.{nat_tests}
-use Rattle.std.specs.List.{remove, filter}
+use Rattle.std.specs.List.{remove}
 use Rattle.mon_tally.specs.Rising.{rise, without}
 
 both : (a b : Bool) → a ≡ true → b ≡ true → (a && b) ≡ true

@@ -1,7 +1,7 @@
 -- Values that are told apart by their codes.
-use Rattle.std.proofs.Common.{◌≡◌, ◌≢◌, ℕ, ◌&&◌, ◌==◌, Bool, true, false, true≢false, refl, sym, ap, eq-eqb}
+use Rattle.std.proofs.Common.{◌≡◌, ◌≢◌, ◌&&◌, ◌==◌, Bool, true, false, true≢false, refl, sym, ap, eq-eqb}
 use Rattle.std.proofs.lemmas.Bool.{eqb-true}
-use base.Stored.{Gv, gnil, gnum, gcons, Coded}
+use base.Stored.{Gv, gnil, gnum, gcons}
 
 abbrev pub same : Gv → Gv → Bool
 same gnil gnil = true
