@@ -1,0 +1,10 @@
+pub mod Has
+pub mod Looks
+pub mod Looking
+pub mod Falsified
+pub mod Mentions
+pub mod Naming
+pub mod Trails
+pub mod Ranks
+pub mod Popping
+pub mod Models

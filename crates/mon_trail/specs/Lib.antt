@@ -1,0 +1,4 @@
+pub mod Marks
+pub mod Looks
+pub mod Trail
+pub mod Picks
