@@ -1,0 +1,99 @@
+-- What the core's state has to do with a history.
+use Rattle.std.specs.Prelude.{◌≡◌, ℕ, ◌+◌, Bool, true, false, ◌==◌, List, ◌∷◌, map, filter, Option, Some, None}
+use Rattle.mon_job.specs.Jobs.{Task}
+use Rattle.mon_report.specs.declared.line.Line.TheVariants.{Closed}
+use Rattle.mon_report.specs.declared.line.Cause.TheVariants.{TooMany}
+use Rattle.mon_world.specs.declared.event.Event.TheVariants.{Opened, Idle}
+use Rattle.mon_world.specs.declared.event.Note.TheVariants.{Report}
+use Rattle.mon_world.specs.declared.history.Entry.{Entry}
+use Rattle.mon_world.specs.declared.history.Entry.TheVariants.{Given, Noted, End}
+use Rattle.mon_legal.specs.Runs.{Run}
+use Rattle.mon_legal.specs.Moments.{Moment}
+use Rattle.mon_legal.specs.Moments.Moment.{Is}
+use Rattle.mon_legal.specs.Jobs.{openings}
+use Rattle.mon_legal.specs.Barriers as history
+use Rattle.mon_legal.specs.Edits.{entries}
+use Rattle.mon_legal.specs.Sessions.{part, parts_of, open_ones, open_with_slot, other_datapaths, view, is_open, next_slot, slot_of, slot_version, changes}
+use Rattle.mon_legal.specs.Passing.{FramesGoInOrder, NothingIsLeft}
+use Rattle.mon_legal.specs.Legal.{gated}
+use Rattle.mon_turns.specs.Core.{State, now_at, state_of, gates, armed}
+use Rattle.mon_turns.specs.Around.{viewed, others}
+use Rattle.mon_turns.specs.Slots.{free_slot}
+use Rattle.mon_turns.specs.Opening.{HasRoom, opened_in, refused}
+use Rattle.mon_turns.specs.Standing.{StandsFor}
+
+-- the moment is the end of the session
+abbrev pub ends_it : ℕ → Moment → Bool
+ends_it s (Is (End r)) = r == s
+ends_it s m = false
+
+abbrev pub is_opening : Moment → Bool
+is_opening (Is (Given Opened)) = true
+is_opening m = false
+
+-- two cores that stand for one log are in one state
+abbrev pub OneLogOneState : Type 0
+OneLogOneState = (run : Run) (a b : State) (tasks others : List Task) (calls told : Option (List (List ℕ))) (h : List Entry)
+    → StandsFor run a tasks calls h → StandsFor run b others told h → a ≡ b
+
+-- the gates of the state are those of the history
+abbrev pub GatesAreTheHistorys : Type 0
+GatesAreTheHistorys = (run : Run) (f : List Moment) → gates (state_of run f) ≡ gated run f
+
+-- the armed sessions are the open ones that the history says are armed, and the table of each has the controller's entries
+abbrev pub ArmedAreTheHistorys : Type 0
+ArmedAreTheHistorys = (run : Run) (f : List Moment)
+    → armed (state_of run f) ≡ map (λ s. (s, entries (part run s f))) (filter (λ s. history.is_armed (part run s f)) (open_ones run f))
+
+-- an opening, where a turn has ended and a slot is free: it comes in order, nothing follows it, and the state is the one before
+-- with a session more
+abbrev pub OpeningsStand : Type 0
+OpeningsStand = (run : Run) (f : List Moment) (slot : ℕ) → HasRoom run (Is (Given Opened) ∷ f) → FramesGoInOrder run f → NothingIsLeft run f
+    → next_slot run f ≡ Some slot
+    → FramesGoInOrder run (Is (Given Opened) ∷ f) × NothingIsLeft run (Is (Given Opened) ∷ f)
+    × (state_of run (Is (Given Opened) ∷ f) ≡ opened_in slot (state_of run f))
+
+-- where a turn has ended, the least slot that no session of the core has is the one that the next session gets
+abbrev pub FreeSlotIsNext : Type 0
+FreeSlotIsNext = (run : Run) (f : List Moment) → HasRoom run f → FramesGoInOrder run f → NothingIsLeft run f → free_slot (state_of run f) ≡ next_slot run f
+
+-- each open session has a slot then
+abbrev pub OpenHaveSlots : Type 0
+OpenHaveSlots = (run : Run) (s : ℕ) (f : List Moment) → HasRoom run f → FramesGoInOrder run f → NothingIsLeft run f
+    → is_open (part run s f) ≡ true → (slot : ℕ) × (slot_of run s f ≡ Some slot)
+
+-- an open session is open behind each moment but its own end
+abbrev pub OpenUntilTheEnd : Type 0
+OpenUntilTheEnd = (run : Run) (s : ℕ) (f : List Moment) (m : Moment) → ends_it s m ≡ false → is_open (part run s f) ≡ true
+    → is_open (part run s (m ∷ f)) ≡ true
+
+-- the same where no slot is free: the session is ended, and only its number is used
+abbrev pub away : Run → List Moment → List Moment
+away run f = Is (Noted (Report (Closed (openings run f) TooMany))) ∷ Is (End (openings run f)) ∷ Is (Given Opened) ∷ f
+
+abbrev pub TurnedAway : Type 0
+TurnedAway = (run : Run) (f : List Moment) → HasRoom run (Is (Given Opened) ∷ f) → FramesGoInOrder run f → NothingIsLeft run f
+    → next_slot run f ≡ None
+    → FramesGoInOrder run (away run f) × NothingIsLeft run (away run f) × (state_of run (away run f) ≡ refused (state_of run f))
+
+-- where nothing came the turn ends at once, and the state stays
+abbrev pub IdleStands : Type 0
+IdleStands = (run : Run) (f : List Moment) → FramesGoInOrder run f → NothingIsLeft run f
+    → FramesGoInOrder run (Is (Given Idle) ∷ f) × NothingIsLeft run (Is (Given Idle) ∷ f) × (state_of run (Is (Given Idle) ∷ f) ≡ state_of run f)
+
+-- a moment moves the version of an open session's slot as often as it changes it for that session: no other session of the
+-- slot is open
+abbrev pub VersionsRise : Type 0
+VersionsRise = (run : Run) (s slot : ℕ) (f : List Moment) (m : Moment) → HasRoom run f → is_opening m ≡ false → is_open (part run s f) ≡ true
+    → slot_of run s f ≡ Some slot
+    → slot_version run slot (m ∷ f) + changes (part run s f) ≡ slot_version run slot f + changes (part run s (m ∷ f))
+
+-- the view that the state gives a session is the history's
+abbrev pub ViewsAreTheHistorys : Type 0
+ViewsAreTheHistorys = (run : Run) (f : List Moment) (s : ℕ) → HasRoom run f → FramesGoInOrder run f → NothingIsLeft run f
+    → viewed run (state_of run f).sessions (now_at run f s) ≡ view run s f
+
+-- and so are the datapaths of the other sessions
+abbrev pub OthersAreTheHistorys : Type 0
+OthersAreTheHistorys = (run : Run) (f : List Moment) (s : ℕ) → HasRoom run f → FramesGoInOrder run f → NothingIsLeft run f
+    → others s (state_of run f).sessions ≡ other_datapaths (parts_of run f) s (open_with_slot run f)

@@ -1,0 +1,10 @@
+pub mod Core
+pub mod Around
+pub mod Slots
+pub mod Opening
+pub mod Gates
+pub mod Standing
+pub mod Answers
+pub mod Loops
+pub mod Starting
+pub mod Laws

@@ -1,0 +1,63 @@
+//! What the definitions of the core say, whatever the history. These functions do nothing: each is its law.
+
+ghost use Rattle.mon_turns.specs.Laws.{OneLogOneState, GatesAreTheHistorys, ArmedAreTheHistorys, OpeningsStand, FreeSlotIsNext, OpenHaveSlots, OpenUntilTheEnd, TurnedAway, IdleStands, VersionsRise, ViewsAreTheHistorys, OthersAreTheHistorys};
+
+/// A log fixes the state of the core that stands for it.
+pub fn one_log_gives_one_state()
+    ensures { OneLogOneState }
+{}
+
+/// The sessions whose controller is not read are those that the history gates.
+pub fn gates_are_those_of_the_history()
+    ensures { GatesAreTheHistorys }
+{}
+
+/// The core shows the armed sessions of the history, and the entries that their controllers should have.
+pub fn armed_sessions_are_those_of_the_history()
+    ensures { ArmedAreTheHistorys }
+{}
+
+/// An opening in a free slot leaves the state with a session more, and ends its turn at once.
+pub fn openings_stand()
+    ensures { OpeningsStand }
+{}
+
+/// The least free slot of the core is the one that the history gives the next session.
+pub fn the_free_slot_is_the_next()
+    ensures { FreeSlotIsNext }
+{}
+
+/// Where a turn has ended each open session has a slot.
+pub fn open_sessions_have_slots()
+    ensures { OpenHaveSlots }
+{}
+
+/// A session that is open stays so until it is ended.
+pub fn sessions_are_open_until_their_end()
+    ensures { OpenUntilTheEnd }
+{}
+
+/// Where no slot is free the next session is ended at once, with its report, and only its number is used.
+pub fn sessions_without_a_slot_are_turned_away()
+    ensures { TurnedAway }
+{}
+
+/// Where nothing came the turn ends at once, and the state stays.
+pub fn idle_stands()
+    ensures { IdleStands }
+{}
+
+/// The version of a slot rises with the changes of the one open session that has it.
+pub fn versions_rise_with_their_session()
+    ensures { VersionsRise }
+{}
+
+/// The view of a session that the state gives is the history's.
+pub fn views_are_those_of_the_history()
+    ensures { ViewsAreTheHistorys }
+{}
+
+/// The datapath ids of the other open sessions are the history's.
+pub fn others_are_those_of_the_history()
+    ensures { OthersAreTheHistorys }
+{}
