@@ -1,0 +1,4 @@
+pub mod Marking
+pub mod Skipping
+pub mod Striking
+pub mod Versions

@@ -1,0 +1,6 @@
+pub mod Crew
+pub mod Marks
+pub mod Outs
+pub mod Places
+pub mod Plain
+pub mod Sides
