@@ -19,6 +19,8 @@ mod numbers;
 mod opening;
 mod sessions;
 mod slots;
+#[cfg(test)]
+mod tests;
 mod turn;
 mod waiting;
 
