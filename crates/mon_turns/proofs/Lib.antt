@@ -16,3 +16,9 @@ pub mod Idle
 pub mod Versions
 pub mod Told
 pub mod Refused
+pub mod Seeing
+pub mod Dues
+pub mod Leads
+pub mod Asked
+pub mod Events
+pub mod Wholes

@@ -3,6 +3,7 @@ use Rattle.std.specs.Prelude.{◌≡◌, ℕ, ◌+◌, Bool, true, false, ◌==�
 use Rattle.mon_job.specs.Jobs.{Task}
 use Rattle.mon_report.specs.declared.line.Line.TheVariants.{Closed}
 use Rattle.mon_report.specs.declared.line.Cause.TheVariants.{TooMany}
+use Rattle.mon_world.specs.declared.event.Event.{Event}
 use Rattle.mon_world.specs.declared.event.Event.TheVariants.{Opened, Idle}
 use Rattle.mon_world.specs.declared.event.Note.TheVariants.{Report}
 use Rattle.mon_world.specs.declared.history.Entry.{Entry}
@@ -15,7 +16,10 @@ use Rattle.mon_legal.specs.Barriers as history
 use Rattle.mon_legal.specs.Edits.{entries}
 use Rattle.mon_legal.specs.Sessions.{part, parts_of, open_ones, open_with_slot, other_datapaths, view, is_open, next_slot, slot_of, slot_version, changes}
 use Rattle.mon_legal.specs.Passing.{FramesGoInOrder, NothingIsLeft}
-use Rattle.mon_legal.specs.Legal.{gated}
+use Rattle.mon_legal.specs.Probing.{ProbesSeparate}
+use Rattle.mon_legal.specs.Ticking.{AllCame, before_tick}
+use Rattle.mon_legal.specs.Watches.{MissingCame}
+use Rattle.mon_legal.specs.Legal.{AreLawful, HasEnded, gated}
 use Rattle.mon_turns.specs.Core.{State, now_at, state_of, gates, armed}
 use Rattle.mon_turns.specs.Around.{viewed, others}
 use Rattle.mon_turns.specs.Slots.{free_slot}
@@ -97,3 +101,12 @@ ViewsAreTheHistorys = (run : Run) (f : List Moment) (s : ℕ) → HasRoom run f 
 abbrev pub OthersAreTheHistorys : Type 0
 OthersAreTheHistorys = (run : Run) (f : List Moment) (s : ℕ) → HasRoom run f → FramesGoInOrder run f → NothingIsLeft run f
     → others s (state_of run f).sessions ≡ other_datapaths (parts_of run f) s (open_with_slot run f)
+
+-- an event behind a lawful whole history is lawful, whatever it is
+abbrev pub EventsAreLawful : Type 0
+EventsAreLawful = (run : Run) (f : List Moment) (event : Event) → AreLawful run f → HasEnded run f → AreLawful run (Is (Given event) ∷ f)
+
+-- where nothing comes next the turn has ended by every line, but for what a tick asks for
+abbrev pub WholeTurns : Type 0
+WholeTurns = (run : Run) (f : List Moment) → FramesGoInOrder run f → ProbesSeparate run f → NothingIsLeft run f
+    → AllCame run f → MissingCame run f (before_tick f) → HasEnded run f

@@ -1,6 +1,6 @@
 //! What the definitions of the core say, whatever the history. These functions do nothing: each is its law.
 
-ghost use Rattle.mon_turns.specs.Laws.{OneLogOneState, GatesAreTheHistorys, ArmedAreTheHistorys, OpeningsStand, FreeSlotIsNext, OpenHaveSlots, OpenUntilTheEnd, TurnedAway, IdleStands, VersionsRise, ViewsAreTheHistorys, OthersAreTheHistorys};
+ghost use Rattle.mon_turns.specs.Laws.{OneLogOneState, GatesAreTheHistorys, ArmedAreTheHistorys, OpeningsStand, FreeSlotIsNext, OpenHaveSlots, OpenUntilTheEnd, TurnedAway, IdleStands, VersionsRise, ViewsAreTheHistorys, OthersAreTheHistorys, EventsAreLawful, WholeTurns};
 
 /// A log fixes the state of the core that stands for it.
 pub fn one_log_gives_one_state()
@@ -60,4 +60,14 @@ pub fn views_are_those_of_the_history()
 /// The datapath ids of the other open sessions are the history's.
 pub fn others_are_those_of_the_history()
     ensures { OthersAreTheHistorys }
+{}
+
+/// An event behind a lawful whole history is lawful, whatever it is.
+pub fn events_are_lawful()
+    ensures { EventsAreLawful }
+{}
+
+/// Where nothing comes next the turn has ended by every line of legality, but for what a tick asks for.
+pub fn turns_end_where_nothing_comes()
+    ensures { WholeTurns }
 {}
