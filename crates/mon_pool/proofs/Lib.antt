@@ -1,3 +1,4 @@
+pub mod Crossing
 pub mod Marking
 pub mod Skipping
 pub mod Striking

@@ -14,6 +14,7 @@ use mon_world::Gate;
 use std::alloc::Global;
 use std::sync::Wait;
 use std::thread;
+use std::thread::Threads;
 
 /// Pushes an answer, and tries again where the queue is full.
 fn push_answer<R: Wait>(rt: &R, queue: &AnswerQueue, pass: &mut AnswerPass, answer: Answer)
@@ -106,5 +107,31 @@ impl Pool {
             self.set_awake(pass.bit);
         }
         unreachable!()
+    }
+
+    /// Runs the workers, each in a thread of its own, until the pool has ended. Where no thread can be made, they run one
+    /// after the other, and the first one until another thread ends the pool.
+    pub fn work_all<R: Threads + Wait + Sync, G: Gate + Sync>(
+        &self,
+        rt: &R,
+        alloc: Global,
+        passes: &mut [Pass],
+        gate: &G,
+    )
+        requires { All (IsWorkerOf self.now) passes.old }
+        ensures pool { All (IsWorkerOf self.now) passes.new }
+        ensures ended { All (λ p. Has (seen_of p) 64 1) passes.new }
+    {
+        let count = passes.len().max(1);
+        thread::for_each_mut(
+            rt,
+            passes,
+            count,
+            &|_, pass: &mut Pass|
+                requires { IsWorkerOf self.now pass.old }
+                ensures pool { IsWorkerOf self.entry.now pass.new }
+                ensures ended { Has (seen_of pass.new) 64 1 }
+            { self.work(rt, alloc, pass, gate) },
+        );
     }
 }
