@@ -12,3 +12,9 @@ mod Tracking
 mod UnderWays
 mod Versions
 mod Whole
+mod Ticked
+mod Probed
+mod Maps
+mod Plain
+mod Walking
+mod Passings

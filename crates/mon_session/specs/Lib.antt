@@ -13,3 +13,4 @@ pub mod UnderWay
 pub mod Walks
 pub mod Passing
 pub mod Entries
+pub mod Ticking

@@ -1,7 +1,10 @@
 //! An edit that was passed and is not settled yet.
 
-ghost use Rattle.std.specs.Prelude.{◌≡◌};
+ghost use Rattle.std.specs.Prelude.{◌≡◌, false, OnOk};
+ghost use Rattle.mon_legal.specs.Edits.{older};
+ghost use Rattle.mon_session.specs.Ticking.{is_silent};
 
+use mon_list::OutOfMemory;
 use mon_table::{Edit, Rule};
 use of_frame::Frame;
 use std::marker::Model;
@@ -25,4 +28,27 @@ impl Model for InFlight {
     ghost Value = { Passed };
 
     ghost view = { λ p. record { number = p.number; edit = p.edit; stood = p.stood; frame = p.frame; settled = false; reported = p.reported; ticks = p.ticks } };
+}
+
+impl InFlight {
+    /// Whether the edit is told as silent at the next tick, where that comes after so many.
+    pub fn is_silent(&self, alarm: u32) -> bool
+        ensures { result ≡ is_silent alarm self.now }
+    {
+        let alarm = alarm as u64;
+        self.ticks < alarm && self.ticks + 1 == alarm && !self.reported
+    }
+
+    /// A tick later. More ticks than a `u64` counts are more than any memory outlasts.
+    pub fn age(&mut self) -> Result<(), OutOfMemory>
+        ensures later { OnOk result (self.new ≡ older self.old) }
+        ensures number { self.new.number ≡ self.old.number }
+        ensures unsettled { self.new.settled ≡ false }
+    {
+        let Some(ticks) = self.ticks.checked_add(1) else {
+            return Err(OutOfMemory);
+        };
+        self.ticks = ticks;
+        Ok(())
+    }
 }

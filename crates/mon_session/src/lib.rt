@@ -10,7 +10,8 @@
 //! How: unsettled edits stand in falling order of their numbers, so that one enters and leaves at an end; frames that wait
 //! are counted in bytes as they come; a frame is planned once, and its edits go out one by one.
 //!
-//! No call takes a frame yet: what stands here is what a session keeps, how it begins, and the laws.
+//! No call takes a frame yet: what stands here is what a session keeps, how it begins, and what a tick makes of it, beside
+//! the laws.
 #![tactic(auto)]
 
 mod around;
@@ -23,6 +24,7 @@ mod probe;
 mod sending;
 mod session;
 mod step;
+mod ticking;
 mod track;
 mod tracks;
 mod under_way;

@@ -1,8 +1,17 @@
 //! Probes that were sent for an edit or a watch.
 
+ghost use Rattle.std.specs.Prelude.{◌≡◌, OnOk, IfOk};
+ghost use Rattle.mon_session.specs.Tracks.{is_due, is_again, is_over, a_tick_later, HasGone};
+ghost use Rattle.mon_session.specs.Ticking.{again_step};
+
+use crate::step::Step;
+use crate::unsettled::copied;
+use mon_list::OutOfMemory;
 use mon_outcome::Emission;
 use mon_shows::Seen;
+use mon_world::{Out, Side};
 use of_frame::Frame;
+use std::alloc::Global;
 use std::marker::Model;
 
 /// A probe: its serial, its edit, which is 0 for a watch, at which version it was sent, the emission by which it shows
@@ -41,4 +50,55 @@ impl Model for LiveProbe {
     ghost Value = { Live };
 
     ghost view = { λ l. record { probe = l.probe; way = Some (record { near = l.near; frame = l.frame }); ticks = l.ticks } };
+}
+
+impl LiveProbe {
+    /// Whether it is to be sent again at the next tick, after so many since it was sent.
+    pub fn is_due(&self, retry: u32, reported: bool) -> bool
+        ensures { result ≡ is_due retry reported self.now }
+    {
+        let retry = retry as u64;
+        !reported && self.ticks < retry && self.ticks + 1 == retry
+    }
+
+    /// Whether it goes out again then, at its own version.
+    pub fn is_again(&self, retry: u32, version: u64, reported: bool) -> bool
+        ensures { result ≡ is_again retry version reported self.now }
+    {
+        self.is_due(retry, reported) && self.probe.version == version
+    }
+
+    /// It goes out again, in its frame.
+    pub fn again(&self, alloc: Global) -> Result<Step, OutOfMemory>
+        ensures { IfOk result (λ step. step ≡ again_step self.now) }
+    {
+        Ok(Step::Out(Out::Send {
+            session: self.near,
+            to: Side::Switch,
+            frame: copied(alloc, &self.frame)?,
+        }))
+    }
+
+    /// Whether it lives no more then, at another version.
+    pub fn is_over(&self, retry: u32, version: u64, reported: bool) -> bool
+        ensures { result ≡ is_over retry version reported self.now }
+    {
+        self.is_due(retry, reported) && self.probe.version != version
+    }
+
+    /// A tick later. More ticks than a `u64` counts are more than any memory outlasts.
+    pub fn tick(&mut self, retry: u32, reported: bool) -> Result<(), OutOfMemory>
+        ensures later { OnOk result (self.new ≡ a_tick_later retry reported self.old) }
+        ensures gone { HasGone self.new }
+    {
+        if self.is_due(retry, reported) {
+            self.ticks = 0;
+            return Ok(());
+        }
+        let Some(ticks) = self.ticks.checked_add(1) else {
+            return Err(OutOfMemory);
+        };
+        self.ticks = ticks;
+        Ok(())
+    }
 }

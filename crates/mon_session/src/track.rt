@@ -1,6 +1,14 @@
 //! What a session keeps of the jobs and the probes of one unsettled edit.
 
+ghost use Rattle.std.specs.Prelude.{◌≡◌, ◌++◌, not, map, filter, OnOk};
+ghost use Rattle.std.specs.List.{AllByRecursion};
+ghost use Rattle.mon_session.specs.Tracks.{is_over, a_tick_later, ticked, is_again, again_of, HasGone};
+ghost use Rattle.mon_session.specs.Ticking.{again_step};
+
 use crate::probe::{LiveProbe, SentProbe};
+use crate::step::Outs;
+use mon_list::OutOfMemory;
+use std::alloc::Global;
 use std::marker::Model;
 
 /// The number of the edit, whether it was reported as one that no probe is to show, whether a job of it has no answer, its
@@ -20,4 +28,58 @@ impl Model for Track {
     ghost Value = { Tracked };
 
     ghost view = { λ t. record { number = t.number; reported = t.reported; asked = t.asked; kept = t.kept.items; live = t.live.items } };
+}
+
+impl Track {
+    /// Sends those of its live probes again that are due at the next tick, after so many, and are of this version.
+    pub fn again(
+        &self,
+        alloc: Global,
+        retry: u32,
+        version: u64,
+        outs: &mut Outs,
+    ) -> Result<(), OutOfMemory>
+        ensures { OnOk result (outs.new ≡ outs.old ++ map again_step (again_of retry version self.now)) }
+    {
+        for place in 0..self.live.len() {
+            if self.live[place].is_again(retry, version, self.reported) {
+                outs.push(self.live[place].again(alloc)?)?;
+            }
+        }
+        Ok(())
+    }
+
+    /// A tick later: probes that were due and lost their version live no more.
+    #[tactic(auto, using(crate::proofs::Probed::gone_filtered))]
+    pub fn tick(&mut self, retry: u32, version: u64) -> Result<(), OutOfMemory>
+        requires gone { AllByRecursion HasGone self.old.live }
+        ensures ticked { OnOk result (self.new ≡ ticked retry version self.old) }
+        ensures gone { AllByRecursion HasGone self.new.live }
+    {
+        drop_over(&mut self.live, retry, version, self.reported);
+        tick_all(&mut self.live, retry, self.reported)
+    }
+}
+
+/// Drops the probes that live no more at the next tick.
+fn drop_over(live: &mut Vec<LiveProbe>, retry: u32, version: u64, reported: bool)
+    ensures { live.new.items ≡ filter (λ l. not (is_over retry version reported l)) live.old.items }
+{
+    for place in (0..live.len()).rev() {
+        if live[place].is_over(retry, version, reported) {
+            live.remove(place);
+        }
+    }
+}
+
+/// A tick later for each of these probes.
+fn tick_all(live: &mut Vec<LiveProbe>, retry: u32, reported: bool) -> Result<(), OutOfMemory>
+    requires gone { AllByRecursion HasGone live.old.items }
+    ensures later { OnOk result (live.new.items ≡ map (a_tick_later retry reported) live.old.items) }
+    ensures gone { AllByRecursion HasGone live.new.items }
+{
+    for place in 0..live.len() {
+        live[place].tick(retry, reported)?;
+    }
+    Ok(())
 }

@@ -1,9 +1,12 @@
 //! What a session keeps of the jobs and the probes of its unsettled edits.
 
-ghost use Rattle.std.specs.Prelude.{◌≡◌, []};
-ghost use Rattle.mon_session.specs.Tracks.{AllGone};
+ghost use Rattle.std.specs.Prelude.{◌≡◌, ◌++◌, [], map, OnOk};
+ghost use Rattle.mon_session.specs.Tracks.{Track as Tracked, ticked, again_in, AllGone};
+ghost use Rattle.mon_session.specs.Ticking.{again_step};
 
+use crate::step::Outs;
 use crate::track::Track;
+use mon_list::OutOfMemory;
 use std::alloc::Global;
 use std::marker::Model;
 
@@ -40,4 +43,39 @@ impl Tracks {
     {
         let _ = &self.items;
     }
+
+    /// A tick later.
+    pub fn tick(&mut self, retry: u32, version: u64) -> Result<(), OutOfMemory>
+        ensures { OnOk result (self.new ≡ map (ticked retry version) self.old) }
+    {
+        tick_in(&mut self.items, retry, version)
+    }
+
+    /// Sends the live probes again that are due at the next tick, after so many, and are of this version, the oldest edit's
+    /// first.
+    pub fn again(
+        &self,
+        alloc: Global,
+        retry: u32,
+        version: u64,
+        outs: &mut Outs,
+    ) -> Result<(), OutOfMemory>
+        ensures { OnOk result (outs.new ≡ outs.old ++ map again_step (again_in retry version self.now)) }
+    {
+        for place in 0..self.items.len() {
+            self.items[place].again(alloc, retry, version, outs)?;
+        }
+        Ok(())
+    }
+}
+
+fn tick_in(tracks: &mut Vec<Track>, retry: u32, version: u64) -> Result<(), OutOfMemory>
+    requires gone { AllGone tracks.old.items }
+    ensures ticked { OnOk result (tracks.new.items ≡ map (ticked retry version) tracks.old.items) }
+    ensures gone { AllGone tracks.new.items }
+{
+    for place in 0..tracks.len() {
+        tracks[place].tick(retry, version)?;
+    }
+    Ok(())
 }
