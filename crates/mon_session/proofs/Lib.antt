@@ -18,3 +18,4 @@ mod Maps
 mod Plain
 mod Walking
 mod Passings
+mod Returning

@@ -10,10 +10,11 @@
 //! How: unsettled edits stand in falling order of their numbers, so that one enters and leaves at an end; frames that wait
 //! are counted in bytes as they come; a frame is planned once, and its edits go out one by one.
 //!
-//! No call takes a frame yet: what stands here is what a session keeps, how it begins, and what a tick makes of it, beside
+//! No call takes a frame yet: what stands here is what a session keeps, how it begins, what ticks and returns make of it, and
 //! the laws.
 #![tactic(auto)]
 
+mod arming;
 mod around;
 mod in_flight;
 mod laws;
@@ -21,6 +22,7 @@ mod name;
 mod numbers;
 mod ordered;
 mod probe;
+mod returned;
 mod sending;
 mod session;
 mod step;

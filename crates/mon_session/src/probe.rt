@@ -1,11 +1,13 @@
 //! Probes that were sent for an edit or a watch.
 
-ghost use Rattle.std.specs.Prelude.{◌≡◌, OnOk, IfOk};
-ghost use Rattle.mon_session.specs.Tracks.{is_due, is_again, is_over, a_tick_later, HasGone};
+ghost use Rattle.std.specs.Prelude.{◌≡◌, option_copied, OnOk, IfOk};
+ghost use Rattle.mon_legal.specs.Probes as probes;
+ghost use Rattle.mon_session.specs.Tracks.{is_due, is_again, is_over, is_shown, a_tick_later, HasGone};
 ghost use Rattle.mon_session.specs.Ticking.{again_step};
 
 use crate::step::Step;
 use crate::unsettled::copied;
+use mon_header::same_header;
 use mon_list::OutOfMemory;
 use mon_outcome::Emission;
 use mon_shows::Seen;
@@ -31,6 +33,15 @@ impl Model for SentProbe {
     ghost Value = { Probe };
 
     ghost view = { λ p. record { serial = p.serial; edit = p.edit; version = p.version; emission = p.emission; shows = p.shows } };
+}
+
+impl SentProbe {
+    /// Whether a return of this serial shows what the probe is to show.
+    pub fn is_shown(&self, serial: u64, seen: &Seen) -> bool
+        ensures { result ≡ is_shown serial seen.now self.now }
+    {
+        self.serial == serial && is_seen(seen, self.shows.as_ref())
+    }
 }
 
 /// A probe that is live: the session to whose switch it went out and the frame in which it did, and how many ticks came
@@ -101,4 +112,24 @@ impl LiveProbe {
         self.ticks = ticks;
         Ok(())
     }
+}
+
+/// Whether what is seen is what a probe is to show.
+fn is_seen(seen: &Seen, shows: Option<&Seen>) -> bool
+    ensures { result ≡ probes.is_seen seen.now (option_copied shows.entry) }
+{
+    match shows {
+        None => false,
+        Some(other) => same_seen(seen, other),
+    }
+}
+
+/// Whether two PACKET_INs show the same.
+fn same_seen(a: &Seen, b: &Seen) -> bool
+    ensures { result ≡ probes.same_seen a.now b.now }
+{
+    a.switch == b.switch
+        && a.port == b.port
+        && a.reason == b.reason
+        && same_header(&a.header, &b.header)
 }

@@ -1,13 +1,14 @@
 //! What a session keeps of the jobs and the probes of one unsettled edit.
 
-ghost use Rattle.std.specs.Prelude.{◌≡◌, ◌++◌, not, map, filter, OnOk};
+ghost use Rattle.std.specs.Prelude.{◌≡◌, ◌++◌, true, false, not, map, filter, OnOk};
 ghost use Rattle.std.specs.List.{AllByRecursion};
-ghost use Rattle.mon_session.specs.Tracks.{is_over, a_tick_later, ticked, is_again, again_of, HasGone};
+ghost use Rattle.mon_session.specs.Tracks.{is_over, a_tick_later, ticked, fits, is_again, again_of, HasGone};
 ghost use Rattle.mon_session.specs.Ticking.{again_step};
 
 use crate::probe::{LiveProbe, SentProbe};
 use crate::step::Outs;
 use mon_list::OutOfMemory;
+use mon_shows::Seen;
 use std::alloc::Global;
 use std::marker::Model;
 
@@ -31,6 +32,18 @@ impl Model for Track {
 }
 
 impl Track {
+    /// Whether a return of this serial shows what a kept probe is to show.
+    pub fn fits(&self, serial: u64, seen: &Seen) -> bool
+        ensures { result ≡ fits serial seen.now self.now }
+    {
+        for probe in &self.kept {
+            if probe.is_shown(serial, seen) {
+                return true;
+            }
+        }
+        false
+    }
+
     /// Sends those of its live probes again that are due at the next tick, after so many, and are of this version.
     pub fn again(
         &self,

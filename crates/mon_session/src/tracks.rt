@@ -1,12 +1,13 @@
 //! What a session keeps of the jobs and the probes of its unsettled edits.
 
-ghost use Rattle.std.specs.Prelude.{◌≡◌, ◌++◌, [], map, OnOk};
-ghost use Rattle.mon_session.specs.Tracks.{Track as Tracked, ticked, again_in, AllGone};
+ghost use Rattle.std.specs.Prelude.{◌≡◌, ◌++◌, [], ◌==◌, not, map, filter, Some, OnOk};
+ghost use Rattle.mon_session.specs.Tracks.{Track as Tracked, is_track, without_track, ticked, again_in, confirmed_in, AllGone};
 ghost use Rattle.mon_session.specs.Ticking.{again_step};
 
 use crate::step::Outs;
 use crate::track::Track;
 use mon_list::OutOfMemory;
+use mon_shows::Seen;
 use std::alloc::Global;
 use std::marker::Model;
 
@@ -44,6 +45,14 @@ impl Tracks {
         let _ = &self.items;
     }
 
+    /// The edit of a number is settled or rejected.
+    #[tactic(auto, using(crate::proofs::Probed::gone_left))]
+    pub fn end(&mut self, number: u64)
+        ensures { self.new ≡ without_track (Some number) self.old }
+    {
+        take_out(&mut self.items, number);
+    }
+
     /// A tick later.
     pub fn tick(&mut self, retry: u32, version: u64) -> Result<(), OutOfMemory>
         ensures { OnOk result (self.new ≡ map (ticked retry version) self.old) }
@@ -66,6 +75,31 @@ impl Tracks {
             self.items[place].again(alloc, retry, version, outs)?;
         }
         Ok(())
+    }
+
+    /// The edit that a return confirms: the newest of those of which a kept probe of this serial is to show just that.
+    #[tactic(auto, using(crate::proofs::Probed::confirmed_before))]
+    pub fn confirmed(&self, serial: u64, seen: &Seen) -> Option<u64>
+        ensures { result ≡ confirmed_in serial seen.now self.now }
+    {
+        for place in (0..self.items.len()).rev() {
+            let track = &self.items[place];
+            if track.fits(serial, seen) {
+                return Some(track.number);
+            }
+        }
+        None
+    }
+}
+
+/// Takes the one of a number out.
+fn take_out(tracks: &mut Vec<Track>, number: u64)
+    ensures { tracks.new.items ≡ filter (λ t. not (is_track number t)) tracks.old.items }
+{
+    for place in (0..tracks.len()).rev() {
+        if tracks[place].number == number {
+            tracks.remove(place);
+        }
     }
 }
 

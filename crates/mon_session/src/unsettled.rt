@@ -2,8 +2,9 @@
 
 ghost use Rattle.std.specs.Prelude.{◌≡◌, ℕ, [], ◌++◌, map, OnOk, IfOk};
 ghost use Rattle.mon_legal.specs.Edits.{older};
+ghost use Rattle.mon_session.specs.Now.{edit_numbered};
 ghost use Rattle.mon_session.specs.Ticking.{silent_step, silent_in};
-ghost use Rattle.mon_session.specs.Passing.{Falls};
+ghost use Rattle.mon_session.specs.Passing.{Falls, newer, without_edit};
 
 use crate::in_flight::InFlight;
 use crate::step::{Outs, Step};
@@ -42,6 +43,22 @@ impl Unsettled {
             count: 0,
             edits: VecDeque::new(alloc),
         }
+    }
+
+    /// How many edits were passed.
+    pub fn count(&self) -> u64
+        ensures { result ≡ self.now.count }
+    {
+        self.count
+    }
+
+    /// Takes the edit of a number out.
+    #[tactic(auto, using(crate::proofs::Passings::falls_without))]
+    pub fn take(&mut self, number: u64) -> Option<InFlight>
+        ensures taken { result ≡ edit_numbered number self.old.edits }
+        ensures left { self.new ≡ record self.old { edits = without_edit number self.old.edits } }
+    {
+        take_out(&mut self.edits, number)
     }
 
     /// Tells the edits that are silent after so many ticks, at the next one, the oldest first.
@@ -84,6 +101,28 @@ fn age_in(edits: &mut VecDeque<InFlight>) -> Result<(), OutOfMemory>
         edits[place].age()?;
     }
     Ok(())
+}
+
+/// How many of these edits are newer than the one of a number, or how many there are, where it is not among them.
+fn newer(edits: &VecDeque<InFlight>, number: u64) -> usize
+    ensures { result ≡ newer number edits.now.items }
+{
+    for place in 0..edits.len() {
+        if edits[place].number == number {
+            return place;
+        }
+    }
+    edits.len()
+}
+
+/// Takes the edit of a number out.
+fn take_out(edits: &mut VecDeque<InFlight>, number: u64) -> Option<InFlight>
+    requires { (n : ℕ) × Falls n edits.old.items }
+    ensures taken { result ≡ edit_numbered number edits.old.items }
+    ensures left { edits.new.items ≡ without_edit number edits.old.items }
+{
+    let place = newer(edits, number);
+    edits.remove(place)
 }
 
 /// The same frame once more.
