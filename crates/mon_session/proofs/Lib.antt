@@ -19,3 +19,5 @@ mod Plain
 mod Walking
 mod Passings
 mod Returning
+mod Shooting
+mod Lengths

@@ -14,3 +14,4 @@ pub mod Walks
 pub mod Passing
 pub mod Entries
 pub mod Ticking
+pub mod Answering

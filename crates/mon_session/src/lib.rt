@@ -10,8 +10,8 @@
 //! How: unsettled edits stand in falling order of their numbers, so that one enters and leaves at an end; frames that wait
 //! are counted in bytes as they come; a frame is planned once, and its edits go out one by one.
 //!
-//! No call takes a frame yet: what stands here is what a session keeps, how it begins, what ticks and returns make of it, and
-//! the laws.
+//! No call takes a frame yet: what stands here is what a session keeps, how it begins, what ticks, returns and answers make of
+//! it, and the laws.
 #![tactic(auto)]
 
 mod arming;
@@ -21,6 +21,7 @@ mod laws;
 mod name;
 mod numbers;
 mod ordered;
+mod passing;
 mod probe;
 mod returned;
 mod sending;
@@ -31,6 +32,7 @@ mod track;
 mod tracks;
 mod under_way;
 mod unsettled;
+mod verdicts;
 
 pub use around::{Around, Neighbour, Neighbours};
 pub use laws::{

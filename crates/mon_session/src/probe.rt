@@ -1,6 +1,7 @@
 //! Probes that were sent for an edit or a watch.
 
 ghost use Rattle.std.specs.Prelude.{◌≡◌, option_copied, OnOk, IfOk};
+ghost use Rattle.mon_legal.specs.Probes.{just_live, sent_out};
 ghost use Rattle.mon_legal.specs.Probes as probes;
 ghost use Rattle.mon_session.specs.Tracks.{is_due, is_again, is_over, is_shown, a_tick_later, HasGone};
 ghost use Rattle.mon_session.specs.Ticking.{again_step};
@@ -36,6 +37,19 @@ impl Model for SentProbe {
 }
 
 impl SentProbe {
+    /// The same probe once more.
+    pub fn copied(&self) -> SentProbe
+        ensures { result ≡ self.now }
+    {
+        SentProbe {
+            serial: self.serial,
+            edit: self.edit,
+            version: self.version,
+            emission: self.emission,
+            shows: self.shows,
+        }
+    }
+
     /// Whether a return of this serial shows what the probe is to show.
     pub fn is_shown(&self, serial: u64, seen: &Seen) -> bool
         ensures { result ≡ is_shown serial seen.now self.now }
@@ -64,6 +78,24 @@ impl Model for LiveProbe {
 }
 
 impl LiveProbe {
+    /// A probe that just went out this way.
+    pub fn new(
+        alloc: Global,
+        probe: &SentProbe,
+        near: u64,
+        frame: &Frame,
+    ) -> Result<LiveProbe, OutOfMemory>
+        ensures went { IfOk result (λ l. l ≡ sent_out probe.now.serial near frame.now (just_live probe.now)) }
+        ensures gone { IfOk result HasGone }
+    {
+        Ok(LiveProbe {
+            probe: probe.copied(),
+            near,
+            frame: copied(alloc, frame)?,
+            ticks: 0,
+        })
+    }
+
     /// Whether it is to be sent again at the next tick, after so many since it was sent.
     pub fn is_due(&self, retry: u32, reported: bool) -> bool
         ensures { result ≡ is_due retry reported self.now }

@@ -1,16 +1,20 @@
 //! What a session keeps of the jobs and the probes of one unsettled edit.
 
-ghost use Rattle.std.specs.Prelude.{◌≡◌, ◌++◌, true, false, not, map, filter, OnOk};
+ghost use Rattle.std.specs.Prelude.{◌≡◌, ◌++◌, ◌==◌, true, false, not, map, filter, OnOk};
 ghost use Rattle.std.specs.List.{AllByRecursion};
-ghost use Rattle.mon_session.specs.Tracks.{is_over, a_tick_later, ticked, fits, is_again, again_of, HasGone};
+ghost use Rattle.mon_session.specs.Tracks.{marked_track, answered_for, sent_one, is_over, a_tick_later, ticked, fits, is_again, again_of, HasGone};
 ghost use Rattle.mon_session.specs.Ticking.{again_step};
 
 use crate::probe::{LiveProbe, SentProbe};
 use crate::step::Outs;
 use mon_list::OutOfMemory;
 use mon_shows::Seen;
+use of_frame::Frame;
 use std::alloc::Global;
 use std::marker::Model;
+
+/// How many probes of an edit are kept.
+const KEPT: usize = 16;
 
 /// The number of the edit, whether it was reported as one that no probe is to show, whether a job of it has no answer, its
 /// newest probes, and those of its probes that are live, the newest first.
@@ -32,6 +36,24 @@ impl Model for Track {
 }
 
 impl Track {
+    /// The edit of a number was reported.
+    pub fn mark(&mut self, number: u64)
+        ensures { self.new ≡ marked_track number self.old }
+    {
+        if self.number == number {
+            self.reported = true;
+        }
+    }
+
+    /// A job of the edit of a number was answered.
+    pub fn answer(&mut self, number: u64)
+        ensures { self.new ≡ answered_for number self.old }
+    {
+        if self.number == number {
+            self.asked = false;
+        }
+    }
+
     /// Whether a return of this serial shows what a kept probe is to show.
     pub fn fits(&self, serial: u64, seen: &Seen) -> bool
         ensures { result ≡ fits serial seen.now self.now }
@@ -59,6 +81,30 @@ impl Track {
                 outs.push(self.live[place].again(alloc)?)?;
             }
         }
+        Ok(())
+    }
+
+    /// The edit gets a probe, which just went out this way.
+    #[tactic(auto, using(crate::proofs::Probed::probe_other, crate::proofs::Probed::probe_own))]
+    pub fn probe(
+        &mut self,
+        alloc: Global,
+        probe: &SentProbe,
+        near: u64,
+        frame: &Frame,
+    ) -> Result<(), OutOfMemory>
+        requires edit { (probe.now.edit == 0) ≡ false }
+        requires gone { AllByRecursion HasGone self.old.live }
+        ensures probed { OnOk result (self.new ≡ sent_one near frame.now probe.now self.old) }
+        ensures gone { AllByRecursion HasGone self.new.live }
+    {
+        if self.number != probe.edit {
+            return Ok(());
+        }
+        let live = LiveProbe::new(alloc, probe, near, frame)?;
+        self.kept.insert(0, probe.copied())?;
+        self.kept.truncate(KEPT);
+        self.live.insert(0, live)?;
         Ok(())
     }
 

@@ -1,13 +1,15 @@
 //! What a session keeps of the jobs and the probes of its unsettled edits.
 
-ghost use Rattle.std.specs.Prelude.{◌≡◌, ◌++◌, [], ◌==◌, not, map, filter, Some, OnOk};
-ghost use Rattle.mon_session.specs.Tracks.{Track as Tracked, is_track, without_track, ticked, again_in, confirmed_in, AllGone};
+ghost use Rattle.std.specs.Prelude.{◌≡◌, ◌++◌, [], ◌==◌, false, not, map, filter, Some, OnOk};
+ghost use Rattle.mon_session.specs.Tracks.{Track as Tracked, is_track, without_track, marked_track, answered_for, sent_one, ticked, again_in, confirmed_in, AllGone};
 ghost use Rattle.mon_session.specs.Ticking.{again_step};
 
+use crate::probe::SentProbe;
 use crate::step::Outs;
 use crate::track::Track;
 use mon_list::OutOfMemory;
 use mon_shows::Seen;
+use of_frame::Frame;
 use std::alloc::Global;
 use std::marker::Model;
 
@@ -51,6 +53,36 @@ impl Tracks {
         ensures { self.new ≡ without_track (Some number) self.old }
     {
         take_out(&mut self.items, number);
+    }
+
+    /// The edit of a number was reported.
+    #[tactic(auto, using(crate::proofs::Probed::gone_marked))]
+    pub fn mark(&mut self, number: u64)
+        ensures { self.new ≡ map (marked_track number) self.old }
+    {
+        mark_in(&mut self.items, number);
+    }
+
+    /// A job of the edit of a number was answered.
+    #[tactic(auto, using(crate::proofs::Probed::gone_answered))]
+    pub fn answer(&mut self, number: u64)
+        ensures { self.new ≡ map (answered_for number) self.old }
+    {
+        answer_in(&mut self.items, number);
+    }
+
+    /// An edit gets a probe, which just went out this way.
+    pub fn probe(
+        &mut self,
+        alloc: Global,
+        probe: &SentProbe,
+        near: u64,
+        frame: &Frame,
+    ) -> Result<(), OutOfMemory>
+        requires edit { (probe.now.edit == 0) ≡ false }
+        ensures { OnOk result (self.new ≡ map (sent_one near frame.now probe.now) self.old) }
+    {
+        probe_in(alloc, &mut self.items, probe, near, frame)
     }
 
     /// A tick later.
@@ -101,6 +133,40 @@ fn take_out(tracks: &mut Vec<Track>, number: u64)
             tracks.remove(place);
         }
     }
+}
+
+fn mark_in(tracks: &mut Vec<Track>, number: u64)
+    ensures { tracks.new.items ≡ map (marked_track number) tracks.old.items }
+{
+    for place in 0..tracks.len() {
+        tracks[place].mark(number);
+    }
+}
+
+fn answer_in(tracks: &mut Vec<Track>, number: u64)
+    ensures { tracks.new.items ≡ map (answered_for number) tracks.old.items }
+{
+    for place in 0..tracks.len() {
+        tracks[place].answer(number);
+    }
+}
+
+fn probe_in(
+    alloc: Global,
+    tracks: &mut Vec<Track>,
+    probe: &SentProbe,
+    near: u64,
+    frame: &Frame,
+) -> Result<(), OutOfMemory>
+    requires edit { (probe.now.edit == 0) ≡ false }
+    requires gone { AllGone tracks.old.items }
+    ensures probed { OnOk result (tracks.new.items ≡ map (sent_one near frame.now probe.now) tracks.old.items) }
+    ensures gone { AllGone tracks.new.items }
+{
+    for place in 0..tracks.len() {
+        tracks[place].probe(alloc, probe, near, frame)?;
+    }
+    Ok(())
 }
 
 fn tick_in(tracks: &mut Vec<Track>, retry: u32, version: u64) -> Result<(), OutOfMemory>

@@ -1,12 +1,14 @@
 //! The edits of a session that are not settled yet.
 
 ghost use Rattle.std.specs.Prelude.{◌≡◌, ℕ, [], ◌++◌, map, OnOk, IfOk};
-ghost use Rattle.mon_legal.specs.Edits.{older};
-ghost use Rattle.mon_session.specs.Now.{edit_numbered};
+ghost use Rattle.std.specs.List.{list_any};
+ghost use Rattle.mon_legal.specs.Edits.{is_number, older};
+ghost use Rattle.mon_session.specs.Now.{edit_numbered, identity_in};
 ghost use Rattle.mon_session.specs.Ticking.{silent_step, silent_in};
-ghost use Rattle.mon_session.specs.Passing.{Falls, newer, without_edit};
+ghost use Rattle.mon_session.specs.Passing.{Falls, newer, without_edit, marked};
 
 use crate::in_flight::InFlight;
+use crate::name::Name;
 use crate::step::{Outs, Step};
 use mon_list::OutOfMemory;
 use mon_report::{Line, What};
@@ -52,6 +54,13 @@ impl Unsettled {
         self.count
     }
 
+    /// Whether the edit of a number is here.
+    pub fn has(&self, number: u64) -> bool
+        ensures { result ≡ list_any (is_number number) self.now.edits }
+    {
+        self.edits.iter().any(|passed| passed.number == number)
+    }
+
     /// Takes the edit of a number out.
     #[tactic(auto, using(crate::proofs::Passings::falls_without))]
     pub fn take(&mut self, number: u64) -> Option<InFlight>
@@ -59,6 +68,15 @@ impl Unsettled {
         ensures left { self.new ≡ record self.old { edits = without_edit number self.old.edits } }
     {
         take_out(&mut self.edits, number)
+    }
+
+    /// The edit of a number was reported as one that no probe is to show. Its identity, where it is here.
+    #[tactic(auto, using(crate::proofs::Passings::falls_marked))]
+    pub fn mark(&mut self, number: u64) -> Option<Name>
+        ensures name { result ≡ identity_in (edit_numbered number self.old.edits) }
+        ensures marked { self.new ≡ record self.old { edits = marked number self.old.edits } }
+    {
+        mark_in(&mut self.edits, number)
     }
 
     /// Tells the edits that are silent after so many ticks, at the next one, the oldest first.
@@ -123,6 +141,22 @@ fn take_out(edits: &mut VecDeque<InFlight>, number: u64) -> Option<InFlight>
 {
     let place = newer(edits, number);
     edits.remove(place)
+}
+
+/// Notes of the edit of a number that it was reported.
+#[tactic(auto, using(crate::proofs::Passings::numbered_at, crate::proofs::Passings::numbered_none, crate::proofs::Passings::marked_at, crate::proofs::Passings::marked_none))]
+fn mark_in(edits: &mut VecDeque<InFlight>, number: u64) -> Option<Name>
+    requires { (n : ℕ) × Falls n edits.old.items }
+    ensures name { result ≡ identity_in (edit_numbered number edits.old.items) }
+    ensures marked { edits.new.items ≡ marked number edits.old.items }
+{
+    let place = newer(edits, number);
+    if place >= edits.len() {
+        return None;
+    }
+    let name = Name::of(edits[place].edit.rule());
+    edits[place].reported = true;
+    Some(name)
 }
 
 /// The same frame once more.
