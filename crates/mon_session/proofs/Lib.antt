@@ -21,3 +21,6 @@ mod Passings
 mod Returning
 mod Shooting
 mod Lengths
+mod Slices
+mod Offering
+mod There

@@ -15,3 +15,4 @@ pub mod Passing
 pub mod Entries
 pub mod Ticking
 pub mod Answering
+pub mod Offering

@@ -2,6 +2,7 @@
 
 ghost use Rattle.mon_session.specs.Confirmed.{OthersStay, ConfirmationIsSound};
 ghost use Rattle.mon_session.specs.Going.{StandingGoesOn};
+ghost use Rattle.mon_session.specs.Offering.{UpdatesAreThere};
 ghost use Rattle.mon_session.specs.Planning.{PlannedAtFirst, PlannedBehind, PlannedWithout};
 ghost use Rattle.mon_session.specs.Standing.{Rejecting, StepsStand, FramesOwe, OpeningBegins, ReturnsOwe, AnswersOwe, TicksOwe, WantsStand};
 
@@ -25,6 +26,12 @@ pub fn planned_edits_stay()
     ensures planned { PlannedAtFirst }
     ensures behind { PlannedBehind }
     ensures vanished { PlannedWithout }
+{}
+
+/// The update of each unsettled edit is in the table that the switch should have, so it can be asked of it by which probe the
+/// update shows.
+pub fn updates_are_there()
+    ensures { UpdatesAreThere }
 {}
 
 /// What a session begins with is what its opening says.

@@ -11,7 +11,7 @@
 //! are counted in bytes as they come; a frame is planned once, and its edits go out one by one.
 //!
 //! No call takes a frame yet: what stands here is what a session keeps, how it begins, what ticks, returns and answers make of
-//! it, and the laws.
+//! it, which jobs it offers, and the laws.
 #![tactic(auto)]
 
 mod arming;
@@ -20,6 +20,7 @@ mod in_flight;
 mod laws;
 mod name;
 mod numbers;
+mod offers;
 mod ordered;
 mod passing;
 mod probe;
@@ -38,9 +39,9 @@ pub use around::{Around, Neighbour, Neighbours};
 pub use laws::{
     a_confirmation_is_sound, a_rejected_edit_is_taken_back, a_step_is_an_entry,
     an_opening_begins_a_session, frames_of_the_switch_owe_what_the_history_says,
-    planned_edits_stay, probes_owe_what_the_history_says, standing_goes_on,
+    planned_edits_stay, probes_owe_what_the_history_says, standing_goes_on, updates_are_there,
 };
 pub use mon_list::OutOfMemory;
 pub use numbers::Numbers;
 pub use session::Session;
-pub use step::{Outs, SessionEnd, Step};
+pub use step::{Jobs, Outs, SessionEnd, Step};

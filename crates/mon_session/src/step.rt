@@ -3,6 +3,7 @@
 ghost use Rattle.std.specs.Prelude.{◌≡◌};
 ghost use Rattle.mon_session.specs.declared.step.SessionEnd.TheVariants as ends;
 
+use mon_job::Job;
 use mon_list::{Items, OutOfMemory};
 use mon_report::Cause;
 use mon_shows::Seen;
@@ -21,6 +22,9 @@ pub enum Step {
 
 /// Steps, in the order in which they are to be carried out.
 pub type Outs = Items<Step>;
+
+/// Jobs, in the order of their offers.
+pub type Jobs = Items<Job>;
 
 /// Why a call of a session did not do all. Afterwards the session may only be dropped.
 #[derive(Clone, Copy, Debug, PartialEq, Eq)]

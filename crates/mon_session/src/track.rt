@@ -2,7 +2,7 @@
 
 ghost use Rattle.std.specs.Prelude.{◌≡◌, ◌++◌, ◌==◌, true, false, not, map, filter, OnOk};
 ghost use Rattle.std.specs.List.{AllByRecursion};
-ghost use Rattle.mon_session.specs.Tracks.{marked_track, answered_for, sent_one, is_over, a_tick_later, ticked, fits, is_again, again_of, HasGone};
+ghost use Rattle.mon_session.specs.Tracks.{marked_track, offered, answered_for, sent_one, is_over, a_tick_later, ticked, fits, wants_job, is_again, again_of, HasGone};
 ghost use Rattle.mon_session.specs.Ticking.{again_step};
 
 use crate::probe::{LiveProbe, SentProbe};
@@ -45,6 +45,15 @@ impl Track {
         }
     }
 
+    /// A job of the edit of a number was offered.
+    pub fn offer(&mut self, number: u64)
+        ensures { self.new ≡ offered number self.old }
+    {
+        if self.number == number {
+            self.asked = true;
+        }
+    }
+
     /// A job of the edit of a number was answered.
     pub fn answer(&mut self, number: u64)
         ensures { self.new ≡ answered_for number self.old }
@@ -82,6 +91,13 @@ impl Track {
             }
         }
         Ok(())
+    }
+
+    /// Whether the edit wants a job.
+    pub fn wants_job(&self) -> bool
+        ensures { result ≡ wants_job self.now }
+    {
+        !self.reported && !self.asked && self.live.is_empty()
     }
 
     /// The edit gets a probe, which just went out this way.

@@ -1,7 +1,7 @@
 //! What a session keeps of the jobs and the probes of its unsettled edits.
 
 ghost use Rattle.std.specs.Prelude.{◌≡◌, ◌++◌, [], ◌==◌, false, not, map, filter, Some, OnOk};
-ghost use Rattle.mon_session.specs.Tracks.{Track as Tracked, is_track, without_track, marked_track, answered_for, sent_one, ticked, again_in, confirmed_in, AllGone};
+ghost use Rattle.mon_session.specs.Tracks.{Track as Tracked, is_track, without_track, marked_track, offered, answered_for, sent_one, ticked, again_in, confirmed_in, wanting_in, AllGone};
 ghost use Rattle.mon_session.specs.Ticking.{again_step};
 
 use crate::probe::SentProbe;
@@ -63,6 +63,14 @@ impl Tracks {
         mark_in(&mut self.items, number);
     }
 
+    /// A job of the edit of a number was offered.
+    #[tactic(auto, using(crate::proofs::Probed::gone_offered))]
+    pub fn offer(&mut self, number: u64)
+        ensures { self.new ≡ map (offered number) self.old }
+    {
+        offer_in(&mut self.items, number);
+    }
+
     /// A job of the edit of a number was answered.
     #[tactic(auto, using(crate::proofs::Probed::gone_answered))]
     pub fn answer(&mut self, number: u64)
@@ -122,6 +130,18 @@ impl Tracks {
         }
         None
     }
+
+    /// The oldest edit that wants a job.
+    pub fn wanting(&self) -> Option<u64>
+        ensures { result ≡ wanting_in self.now }
+    {
+        for place in 0..self.items.len() {
+            if self.items[place].wants_job() {
+                return Some(self.items[place].number);
+            }
+        }
+        None
+    }
 }
 
 /// Takes the one of a number out.
@@ -140,6 +160,14 @@ fn mark_in(tracks: &mut Vec<Track>, number: u64)
 {
     for place in 0..tracks.len() {
         tracks[place].mark(number);
+    }
+}
+
+fn offer_in(tracks: &mut Vec<Track>, number: u64)
+    ensures { tracks.new.items ≡ map (offered number) tracks.old.items }
+{
+    for place in 0..tracks.len() {
+        tracks[place].offer(number);
     }
 }
 

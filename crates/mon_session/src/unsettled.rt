@@ -1,6 +1,6 @@
 //! The edits of a session that are not settled yet.
 
-ghost use Rattle.std.specs.Prelude.{◌≡◌, ℕ, [], ◌++◌, map, OnOk, IfOk};
+ghost use Rattle.std.specs.Prelude.{◌≡◌, ℕ, [], ◌++◌, map, option_copied, OnOk, IfOk};
 ghost use Rattle.std.specs.List.{list_any};
 ghost use Rattle.mon_legal.specs.Edits.{is_number, older};
 ghost use Rattle.mon_session.specs.Now.{edit_numbered, identity_in};
@@ -59,6 +59,18 @@ impl Unsettled {
         ensures { result ≡ list_any (is_number number) self.now.edits }
     {
         self.edits.iter().any(|passed| passed.number == number)
+    }
+
+    /// The edit of a number, where it is here.
+    #[tactic(auto, using(crate::proofs::Passings::numbered_at, crate::proofs::Passings::numbered_none))]
+    pub fn get(&self, number: u64) -> Option<&InFlight>
+        ensures { option_copied result ≡ edit_numbered number self.now.edits }
+    {
+        let place = newer(&self.edits, number);
+        if place >= self.edits.len() {
+            return None;
+        }
+        Some(&self.edits[place])
     }
 
     /// Takes the edit of a number out.
