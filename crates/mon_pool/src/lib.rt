@@ -26,6 +26,8 @@ mod pool;
 mod published;
 mod queues;
 mod stop;
+#[cfg(test)]
+mod tests;
 mod unanswered;
 mod waiting;
 mod working;
