@@ -10,11 +10,16 @@ use Rattle.mon_world.specs.declared.event.Side.TheVariants.{Controller, Switch}
 use Rattle.mon_legal.specs.Runs.{Run}
 use Rattle.mon_legal.specs.Owns.{Own}
 use Rattle.mon_legal.specs.Owns.Own.{Sends, Reports}
-use Rattle.mon_legal.specs.Messages.{is_barrier_reply, is_error, is_own_error, features_request}
+use Rattle.mon_legal.specs.Messages.{is_light, is_features_reply, is_barrier_reply, is_error, is_own_error, features_request}
 use Rattle.mon_legal.specs.Edits.{is_number, rejected_by}
 use Rattle.mon_legal.specs.Directly.{Due, fact, refused_reply, ends_or_arms, armed_line, is_return, ends_in}
 use Rattle.mon_legal.specs.Directly.Due.{Frame, Tells, Ending}
 use Rattle.mon_session.specs.Now.{Now, is_reply, answered}
+use Rattle.mon_session.specs.Walks.{Known}
+
+-- a frame of the controller
+abbrev pub controller_dues : List ℕ → List Due
+controller_dues frame = if is_light frame then Frame Switch frame ∷ [] else []
 
 -- the answer to a barrier
 abbrev pub barrier_dues : Run → ℕ → Now → List ℕ → Option Asker → List Due
@@ -49,6 +54,17 @@ with_request n dues = request_if (not n.greeted && not (ends_in dues)) dues
 abbrev pub dues_from_switch : Run → ℕ → List ℕ → Now → List ℕ → List Due
 dues_from_switch run s taken n frame = with_request n (switch_dues run s taken n frame)
 
+-- the datapaths of the other open sessions count at a FEATURES_REPLY alone
+abbrev pub others_if : Bool → List ℕ → List ℕ
+others_if true taken = taken
+others_if false taken = []
+
+abbrev pub others_at : List ℕ → List ℕ → List ℕ
+others_at taken frame = others_if (is_features_reply frame) taken
+
+abbrev pub dues_at : Run → Known → List ℕ → List ℕ → List Due
+dues_at run k taken frame = dues_from_switch run k.number (others_at taken frame) k.now frame
+
 -- the entries that meet them, as far as the session makes them itself
 abbrev pub meets : Due → List Own
 meets (Frame to frame) = Sends to frame false ∷ []
@@ -58,3 +74,11 @@ meets due = []
 abbrev pub met : List Due → List Own
 met [] = []
 met (due ∷ dues) = meets due ++ met dues
+
+-- those of the own FEATURES_REPLY
+abbrev pub reply_dues : Run → List ℕ → List ℕ → List Due
+reply_dues run taken frame = ends_or_arms run (datapath_of frame) (refused_reply run taken (datapath_of frame))
+
+-- those of the answer to an own barrier
+abbrev pub settled_dues : ℕ → ℕ → Bool → List Due
+settled_dues s k was = if was then fact s k what.Settled ∷ [] else []

@@ -1,6 +1,8 @@
 -- The edits of a session that are neither settled nor rejected, the newest first.
-use Rattle.std.specs.Prelude.{◌≡◌, ℕ, suc, ◌<◌, false, not, List, [], ◌∷◌, filter, map, ◌||◌, if◌then◌else◌}
-use Rattle.mon_legal.specs.Edits.{Passed, is_number}
+use Rattle.std.specs.Prelude.{◌≡◌, ℕ, suc, ◌+◌, ◌<◌, false, not, List, [], ◌∷◌, filter, map, ◌||◌, Option, if◌then◌else◌}
+use Rattle.mon_table.specs.declared.rule.Rule.{Rule}
+use Rattle.mon_table.specs.declared.edit.Edit.{Edit}
+use Rattle.mon_legal.specs.Edits.{Passed, is_number, changes_nothing}
 
 -- how many edits were passed, and which of them are unsettled
 pub record Passing : Type 0 where
@@ -20,6 +22,15 @@ newer k (p ∷ before) = if is_number k p then 0 else suc (newer k before)
 -- the edits without the one of a number
 abbrev pub without_edit : ℕ → List Passed → List Passed
 without_edit k edits = filter (λ p. not (is_number k p)) edits
+
+-- the next edit goes out in this frame; it is settled at once where it changes nothing
+abbrev pub passed : Edit → Option Rule → List ℕ → Passing → Passing
+passed x stood frame p = record {
+  count = p.count + 1;
+  edits =
+      if changes_nothing x then p.edits
+      else record { number = p.count + 1; edit = x; stood = stood; frame = frame; settled = false; reported = false; ticks = 0 } ∷ p.edits;
+}
 
 -- the edit of a number was reported as one that no probe is to show
 abbrev pub mark : ℕ → Passed → Passed

@@ -10,12 +10,20 @@
 //! How: unsettled edits stand in falling order of their numbers, so that one enters and leaves at an end; frames that wait
 //! are counted in bytes as they come; a frame is planned once, and its edits go out one by one.
 //!
-//! No call takes a frame yet: what stands here is what a session keeps, how it begins, what ticks, returns and answers make of
-//! it, which jobs it offers, and the laws.
+//! Rules are not passed by stand-ins yet, and not watched.
 #![tactic(auto)]
 
+mod act;
+mod answered;
 mod arming;
 mod around;
+mod carried;
+mod change;
+mod coming;
+mod controller;
+mod errors;
+mod fate;
+mod features;
 mod in_flight;
 mod laws;
 mod name;
@@ -24,10 +32,13 @@ mod offers;
 mod ordered;
 mod passing;
 mod probe;
+mod removals;
 mod returned;
 mod sending;
 mod session;
 mod step;
+mod switch;
+mod telling;
 mod ticking;
 mod track;
 mod tracks;

@@ -2,7 +2,7 @@
 
 ghost use Rattle.std.specs.Prelude.{◌≡◌, ◌++◌, ◌==◌, true, false, not, map, filter, OnOk};
 ghost use Rattle.std.specs.List.{AllByRecursion};
-ghost use Rattle.mon_session.specs.Tracks.{marked_track, offered, answered_for, sent_one, is_over, a_tick_later, ticked, fits, wants_job, is_again, again_of, HasGone};
+ghost use Rattle.mon_session.specs.Tracks.{new_track, marked_track, offered, answered_for, sent_one, is_over, a_tick_later, ticked, fits, wants_job, is_again, again_of, HasGone};
 ghost use Rattle.mon_session.specs.Ticking.{again_step};
 
 use crate::probe::{LiveProbe, SentProbe};
@@ -36,6 +36,19 @@ impl Model for Track {
 }
 
 impl Track {
+    /// That of an edit which just went out. It takes no memory yet.
+    pub fn new(alloc: Global, number: u64) -> Track
+        ensures { result ≡ new_track number }
+    {
+        Track {
+            number,
+            reported: false,
+            asked: false,
+            kept: Vec::new(alloc),
+            live: Vec::new(alloc),
+        }
+    }
+
     /// The edit of a number was reported.
     pub fn mark(&mut self, number: u64)
         ensures { self.new ≡ marked_track number self.old }

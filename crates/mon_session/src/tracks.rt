@@ -1,7 +1,7 @@
 //! What a session keeps of the jobs and the probes of its unsettled edits.
 
-ghost use Rattle.std.specs.Prelude.{◌≡◌, ◌++◌, [], ◌==◌, false, not, map, filter, Some, OnOk};
-ghost use Rattle.mon_session.specs.Tracks.{Track as Tracked, is_track, without_track, marked_track, offered, answered_for, sent_one, ticked, again_in, confirmed_in, wanting_in, AllGone};
+ghost use Rattle.std.specs.Prelude.{◌≡◌, ◌++◌, ◌∷◌, [], ◌==◌, false, not, map, filter, Some, OnOk};
+ghost use Rattle.mon_session.specs.Tracks.{Track as Tracked, is_track, new_track, without_track, marked_track, offered, answered_for, sent_one, ticked, again_in, confirmed_in, wanting_in, AllGone};
 ghost use Rattle.mon_session.specs.Ticking.{again_step};
 
 use crate::probe::SentProbe;
@@ -45,6 +45,15 @@ impl Tracks {
         ensures { AllGone self.now }
     {
         let _ = &self.items;
+    }
+
+    /// An edit goes out that changes something.
+    #[tactic(auto, using(crate::proofs::Probed::gone_more))]
+    pub fn begin(&mut self, alloc: Global, number: u64) -> Result<(), OutOfMemory>
+        ensures { OnOk result (self.new ≡ self.old ++ new_track number ∷ []) }
+    {
+        self.items.push(Track::new(alloc, number))?;
+        Ok(())
     }
 
     /// The edit of a number is settled or rejected.

@@ -1,19 +1,27 @@
 //! The edits of a session that are not settled yet.
 
-ghost use Rattle.std.specs.Prelude.{◌≡◌, ℕ, [], ◌++◌, map, option_copied, OnOk, IfOk};
+ghost use Rattle.std.specs.Prelude.{◌≡◌, ℕ, [], not, ◌&&◌, ◌++◌, take, map, option_copied, OnOk, IfOk};
+ghost use Rattle.std.specs.Str.{bytes_eq};
+ghost use Rattle.mon_table.specs.Rules.{identity_of, same_identity};
+ghost use Rattle.mon_table.specs.Edits.{edited};
+ghost use Rattle.mon_legal.specs.Messages.{is_error_for};
 ghost use Rattle.std.specs.List.{list_any};
-ghost use Rattle.mon_legal.specs.Edits.{is_number, older};
+ghost use Rattle.mon_legal.specs.Edits.{Passed, is_number, older, changes_nothing, may_pass, cuts, oldest, rejected_by};
+ghost use Rattle.mon_edits.specs.Frames.{is_cut};
 ghost use Rattle.mon_session.specs.Now.{edit_numbered, identity_in};
+ghost use Rattle.mon_legal.specs.Actions.{same_actions};
 ghost use Rattle.mon_session.specs.Ticking.{silent_step, silent_in};
-ghost use Rattle.mon_session.specs.Passing.{Falls, newer, without_edit, marked};
+ghost use Rattle.mon_session.specs.Passing.{Falls, newer, without_edit, marked, passed};
 
 use crate::in_flight::InFlight;
 use crate::name::Name;
 use crate::step::{Outs, Step};
+use mon_header::{Actions, Match, overlaps};
 use mon_list::OutOfMemory;
 use mon_report::{Line, What};
+use mon_table::{Edit, Rule};
 use mon_world::Note;
-use of_frame::Frame;
+use of_frame::{Frame, kinds};
 use std::alloc::Global;
 use std::collections::VecDeque;
 use std::marker::Model;
@@ -52,6 +60,70 @@ impl Unsettled {
         ensures { result ≡ self.now.count }
     {
         self.count
+    }
+
+    /// Whether the match overlaps that of no edit.
+    pub fn may_pass(&self, m: &Match) -> bool
+        ensures { result ≡ may_pass m.now self.now.edits }
+    {
+        for place in 0..self.edits.len() {
+            if overlaps(m, &self.edits[place].edit.rule().matching) {
+                return false;
+            }
+        }
+        true
+    }
+
+    /// The number of the oldest edit.
+    #[tactic(auto, using(crate::proofs::Passings::oldest_last))]
+    pub fn oldest(&self) -> Option<u64>
+        ensures { result ≡ oldest self.now.edits }
+    {
+        let len = self.edits.len();
+        if len == 0 {
+            return None;
+        }
+        Some(self.edits[len - 1].number)
+    }
+
+    /// How many edits take an entry out. More than a `u32` counts are more than any memory holds.
+    pub fn cuts(&self) -> Result<u32, OutOfMemory>
+        ensures { IfOk result (λ count. count ≡ cuts self.now.edits) }
+    {
+        let mut count: u32 = 0;
+        for place in 0..self.edits.len() {
+            if is_cut(&self.edits[place].edit) {
+                let Some(more) = count.checked_add(1) else {
+                    return Err(OutOfMemory);
+                };
+                count = more;
+            }
+        }
+        Ok(count)
+    }
+
+    /// The number of the edit to whose frame the switch answers by this ERROR.
+    pub fn rejected(&self, error: &Frame) -> Option<u64>
+        ensures { result ≡ rejected_by error.now self.now.edits }
+    {
+        for place in 0..self.edits.len() {
+            if is_error_for(error, &self.edits[place].frame) {
+                return Some(self.edits[place].number);
+            }
+        }
+        None
+    }
+
+    /// Whether an edit has this identity.
+    pub fn has_name(&self, name: &Name) -> bool
+        ensures { result ≡ list_any (λ p. not p.settled && same_identity (identity_of (edited p.edit)) name.now) self.now.edits }
+    {
+        for place in 0..self.edits.len() {
+            if Name::of(self.edits[place].edit.rule()).is(name) {
+                return true;
+            }
+        }
+        false
     }
 
     /// Whether the edit of a number is here.
@@ -109,6 +181,38 @@ impl Unsettled {
     {
         age_in(&mut self.edits)
     }
+
+    /// The edit that goes out in this frame is the next one; where it changes nothing it is settled at once. `stood` is what
+    /// stood in its place.
+    #[tactic(auto, using(crate::proofs::Passings::falls_below))]
+    pub fn pass(
+        &mut self,
+        alloc: Global,
+        edit: Edit,
+        stood: Option<Rule>,
+        frame: &Frame,
+    ) -> Result<(), OutOfMemory>
+        ensures { OnOk result (self.new ≡ passed edit stood frame.now self.old) }
+    {
+        let Some(number) = self.count.checked_add(1) else {
+            return Err(OutOfMemory);
+        };
+        if changes_nothing(&edit) {
+            self.count = number;
+            return Ok(());
+        }
+        let frame = copied(alloc, frame)?;
+        self.edits.push_front(InFlight {
+            number,
+            edit,
+            stood,
+            frame,
+            reported: false,
+            ticks: 0,
+        })?;
+        self.count = number;
+        Ok(())
+    }
 }
 
 /// The line that tells an edit as silent.
@@ -131,6 +235,41 @@ fn age_in(edits: &mut VecDeque<InFlight>) -> Result<(), OutOfMemory>
         edits[place].age()?;
     }
     Ok(())
+}
+
+/// Whether an ERROR is for a frame: it bears the frame's xid and its first 64 bytes (OpenFlow 1.0.0, error message).
+fn is_error_for(error: &Frame, frame: &Frame) -> bool
+    ensures { result ≡ is_error_for error.now frame.now }
+{
+    if error.kind() != kinds::ERROR {
+        return false;
+    }
+    let bytes = error.bytes();
+    if bytes.len() < 12 {
+        return false;
+    }
+    if error.xid() != frame.xid() {
+        return false;
+    }
+    same_bytes(front(&bytes[12..]), front(frame.bytes()))
+}
+
+/// The first 64 bytes.
+fn front(bytes: &[u8]) -> &[u8]
+    ensures { result.now ≡ take 64 bytes.now }
+{
+    if bytes.len() > 64 {
+        return &bytes[..64];
+    }
+    bytes
+}
+
+/// Whether two texts have the same bytes.
+#[tactic(auto, using(crate::proofs::Erring::bytes_test))]
+fn same_bytes(a: &[u8], b: &[u8]) -> bool
+    ensures { result ≡ bytes_eq a.now b.now }
+{
+    a == b
 }
 
 /// How many of these edits are newer than the one of a number, or how many there are, where it is not among them.
@@ -176,4 +315,35 @@ pub fn copied(alloc: Global, frame: &Frame) -> Result<Frame, OutOfMemory>
     ensures { IfOk result (λ copy. copy ≡ frame.now) }
 {
     Ok(Frame::of_bytes(Vec::from_slice(alloc, frame.bytes())?))
+}
+
+/// Whether the edit puts the actions that stand there already, in an entry that cannot vanish.
+pub fn changes_nothing(edit: &Edit) -> bool
+    ensures { result ≡ changes_nothing edit.now }
+{
+    match edit {
+        Edit::Put {
+            rule,
+            old: Some(old),
+        } => !old.unsure && same(&rule.actions, &old.actions),
+        Edit::Put { old: None, .. } => false,
+        Edit::Cut { .. } => false,
+    }
+}
+
+/// Whether two lists have the same actions.
+fn same(a: &Actions, b: &Actions) -> bool
+    ensures { result ≡ same_actions a.now b.now }
+{
+    mon_header::same_actions(a, b)
+}
+
+/// Whether an edit takes an entry out.
+fn is_cut(edit: &Edit) -> bool
+    ensures { result ≡ is_cut edit.now }
+{
+    match edit {
+        Edit::Put { .. } => false,
+        Edit::Cut { .. } => true,
+    }
 }
