@@ -8,15 +8,14 @@ use Rattle.mon_shows.specs.declared.target.Target.{Target}
 use Rattle.mon_shows.specs.Views.{Viewing}
 use Rattle.mon_job.specs.Jobs.{Task, updated}
 use Rattle.mon_table.specs.Tables.{slice}
-use Rattle.mon_table.specs.declared.rule.Rule.{Rule}
 use Rattle.mon_legal.specs.Runs.{Run}
 use Rattle.mon_legal.specs.Moments.{Moment}
-use Rattle.mon_legal.specs.Messages.{put_all}
 use Rattle.mon_legal.specs.Edits.{expected, is_number}
 use Rattle.mon_legal.specs.Targets.{target_of_job, target_with, table_for}
 use Rattle.mon_legal.specs.Datapaths.{catching}
 use Rattle.mon_legal.specs.Sessions.{part, version, view, near_of, by_port, number_or, is_named}
 use Rattle.mon_session.specs.Now.{Now, tag_in, edit_numbered}
+use Rattle.mon_session.specs.Offering.{expected_in}
 use Rattle.mon_turns.specs.Core.{Connected, State, Waiting}
 
 -- views ------------------------------------------------------------------------
@@ -66,10 +65,6 @@ offered_as task = record {
   job = record { number = task.number; session = task.session; edit = task.edit; version = task.version };
   slot = task.slot;
 }
-
--- the table that the switch should have: the controller's entries, and the rules by which it catches its neighbours' probes
-abbrev pub expected_in : Now → List Rule
-expected_in n = put_all n.catching n.table
 
 -- the target of a job of an unsettled edit. To come: that of a watch, which a session does not keep yet
 abbrev pub target_in : Viewing → Now → ℕ → Option Target
