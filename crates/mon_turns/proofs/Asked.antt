@@ -411,14 +411,14 @@ asks-armed run f s frame l there y e =
 
 -- ends ---------------------------------------------------------------------------
 
-last-of-three : (a b c : Bool) → a && (b && c) ≡ true → c ≡ true
+pub last-of-three : (a b c : Bool) → a && (b && c) ≡ true → c ≡ true
 last-of-three a b c e = (three-true a b c e).2
 
 refused-first : (run : Run) (d : Option ℕ) (o : Option Cause) (c : Cause) → o ≡ Some c → first_due (ends_or_arms run d o) ≡ Some (Ending c)
 refused-first run d None c e = absurd (let g : None ≡ Some c = e in cc)
 refused-first run d (Some x) c e = ap (λ (y : Cause). Some (Ending y)) (some-same x c e)
 
-same-taken : (run : Run) (f : List Moment) (s : ℕ) (frame : List ℕ) → is_features_reply frame ≡ true → taken_at run f s frame ≡ other_datapaths (parts_of run f) s (open_with_slot run f)
+pub same-taken : (run : Run) (f : List Moment) (s : ℕ) (frame : List ℕ) → is_features_reply frame ≡ true → taken_at run f s frame ≡ other_datapaths (parts_of run f) s (open_with_slot run f)
 same-taken run f s frame e = ap (λ (b : Bool). others_if b (parts_of run f) s (open_with_slot run f)) e
 
 no-rejection : (o : Option ℕ) → is_none o ≡ true → o ≡ None

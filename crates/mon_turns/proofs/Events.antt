@@ -293,7 +293,7 @@ still-job : (number : ℕ) (f : List Moment) (answered : ℕ) (kind : Kind) → 
 still-job number f answered kind = refl
 
 -- the note of a probe makes the probe due
-probed-own : (run : Run) (f : List Moment) (serial number : ℕ) (x : Emission) (j : Job) → job_of number f ≡ Some j → is_open (part run j.session f) ≡ true
+pub probed-own : (run : Run) (f : List Moment) (serial number : ℕ) (x : Emission) (j : Job) → job_of number f ≡ Some j → is_open (part run j.session f) ≡ true
     → first_due (owed run j.session (part run j.session (Is (Noted (Probe serial number x)) ∷ f))) ≡ Some (Going serial)
 probed-own run f serial number x j e there =
     let P = parts_of run f in

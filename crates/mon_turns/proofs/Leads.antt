@@ -58,7 +58,7 @@ pub data Sort : Type 0 where
   Unwatchable : Sort
   Missing : Sort
 
-abbrev sort_of_what : What → Sort
+abbrev pub sort_of_what : What → Sort
 sort_of_what what.NoChange = Sort.Of_passing
 sort_of_what what.Overlap = Sort.Of_passing
 sort_of_what what.Indistinguishable = Sort.Indistinguishable
@@ -67,12 +67,12 @@ sort_of_what what.Settled = Sort.Settled
 sort_of_what what.Rejected = Sort.Rejected
 sort_of_what what.Silent = Sort.Silent
 
-abbrev sort_of_watch : WatchWhat → Sort
+abbrev pub sort_of_watch : WatchWhat → Sort
 sort_of_watch watch_what.Seen = Sort.Seen
 sort_of_watch watch_what.Missing = Sort.Missing
 sort_of_watch watch_what.Unwatchable = Sort.Unwatchable
 
-abbrev sort_of_line : Line → Sort
+abbrev pub sort_of_line : Line → Sort
 sort_of_line (line.Armed s d t) = Sort.Armed
 sort_of_line (line.Closed s c) = Sort.Closed
 sort_of_line (line.Confirmed s k n) = Sort.Confirmed
@@ -87,7 +87,7 @@ sort_of (Ending c) = Sort.Ends_now
 sort_of (Tells l) = sort_of_line l
 
 -- which sorts an entry leads to
-abbrev from_frame : Sort → Bool
+abbrev pub from_frame : Sort → Bool
 from_frame Sort.Frames = true
 from_frame Sort.Ends_now = true
 from_frame Sort.Armed = true
@@ -95,44 +95,44 @@ from_frame Sort.Settled = true
 from_frame Sort.Rejected = true
 from_frame x = false
 
-abbrev from_tick : Sort → Bool
+abbrev pub from_tick : Sort → Bool
 from_tick Sort.Probes_out = true
 from_tick Sort.Silent = true
 from_tick Sort.Missing = true
 from_tick x = false
 
-abbrev from_return : Sort → Bool
+abbrev pub from_return : Sort → Bool
 from_return Sort.Frames = true
 from_return Sort.Confirmed = true
 from_return Sort.Seen = true
 from_return x = false
 
-abbrev from_answer : Sort → Bool
+abbrev pub from_answer : Sort → Bool
 from_answer Sort.Frames = true
 from_answer Sort.Notes = true
 from_answer Sort.Indistinguishable = true
 from_answer Sort.Unwatchable = true
 from_answer x = false
 
-abbrev from_act : Sort → Bool
+abbrev pub from_act : Sort → Bool
 from_act Sort.Frames = true
 from_act Sort.Was_closing = true
 from_act x = false
 
-abbrev from_passing : Sort → Bool
+abbrev pub from_passing : Sort → Bool
 from_passing Sort.Frames = true
 from_passing Sort.Of_passing = true
 from_passing x = false
 
-abbrev is_frames : Sort → Bool
+abbrev pub is_frames : Sort → Bool
 is_frames Sort.Frames = true
 is_frames x = false
 
-abbrev is_end : Sort → Bool
+abbrev pub is_end : Sort → Bool
 is_end Sort.Ends_now = true
 is_end x = false
 
-abbrev is_closed : Sort → Bool
+abbrev pub is_closed : Sort → Bool
 is_closed Sort.Closed = true
 is_closed x = false
 
@@ -293,7 +293,7 @@ pub record Origin (run : Run) (s : ℕ) (d : Due) (seen : List Own) : Type 0 whe
   pub passing : AllByRecursion (λ o. is_passing_by o ≡ true) over
   pub leads : leads_to made (sort_of d) ≡ true
 
-first-from : (test : Sort → Bool) (dues : List Due) (d : Due) → AllFrom test dues → first_due dues ≡ Some d → test (sort_of d) ≡ true
+pub first-from : (test : Sort → Bool) (dues : List Due) (d : Due) → AllFrom test dues → first_due dues ≡ Some d → test (sort_of d) ≡ true
 first-from test [] d a e = absurd (let g : None ≡ Some d = e in cc)
 first-from test (x ∷ dues) d a e = subst (λ (y : Due). test (sort_of y) ≡ true) (some-same x d e) a.0
 
@@ -301,14 +301,14 @@ empty-of : (dues : List Due) → first_due dues ≡ None → dues ≡ []
 empty-of [] e = refl
 empty-of (due ∷ dues) e = absurd (let g : Some due ≡ None = e in cc)
 
-behind-none : (xs dues : List Due) (d : Due) → first_due dues ≡ None → first_due (xs ++ dues) ≡ Some d → first_due xs ≡ Some d
+pub behind-none : (xs dues : List Due) (d : Due) → first_due dues ≡ None → first_due (xs ++ dues) ≡ Some d → first_due xs ≡ Some d
 behind-none xs dues d e g = ap first_due (sym (append-nil xs) ∙ ap (λ (ds : List Due). xs ++ ds) (sym (empty-of dues e))) ∙ g
 
-late-first : (dues : List Due) (d : Due) → AllLate dues → first_due dues ≡ Some d → is_late d ≡ true
+pub late-first : (dues : List Due) (d : Due) → AllLate dues → first_due dues ≡ Some d → is_late d ≡ true
 late-first [] d a e = absurd (let g : None ≡ Some d = e in cc)
 late-first (x ∷ dues) d a e = subst (λ (y : Due). is_late y ≡ true) (some-same x d e) a.0
 
-first-or-late : (xs dues : List Due) (d : Due) → AllLate dues → first_due (xs ++ dues) ≡ Some d → is_late d ≡ false → first_due xs ≡ Some d
+pub first-or-late : (xs dues : List Due) (d : Due) → AllLate dues → first_due (xs ++ dues) ≡ Some d → is_late d ≡ false → first_due xs ≡ Some d
 first-or-late [] dues d a e n = absurd (false≢true (sym n ∙ late-first dues d a e))
 first-or-late (x ∷ xs) dues d a e n = e
 

@@ -22,3 +22,7 @@ pub mod Leads
 pub mod Asked
 pub mod Events
 pub mod Wholes
+pub mod Live
+pub mod Alone
+pub mod Causes
+pub mod Lasts

@@ -92,7 +92,7 @@ not-lost : (b : Bool) → lost_if b ≡ None → b ≡ false
 not-lost true e = ap is_lost e
 not-lost false e = refl
 
-all-last : (run : Run) (f : List Moment) → next run f ≡ Nothing → AllLast run f
+pub all-last : (run : Run) (f : List Moment) → next run f ≡ Nothing → AllLast run f
 all-last run f e = record {
   losses = kept-where (λ s. lost_of run f s ≡ None) (λ s. has_lost (part run s f) ≡ false) (λ s. is_open (part run s f)) (opened run f)
       (λ s y n. not-lost (has_lost (part run s f)) n) (rests run f e).losses;

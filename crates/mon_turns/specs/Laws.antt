@@ -10,12 +10,14 @@ use Rattle.mon_world.specs.declared.history.Entry.{Entry}
 use Rattle.mon_world.specs.declared.history.Entry.TheVariants.{Given, Noted, End}
 use Rattle.mon_legal.specs.Runs.{Run}
 use Rattle.mon_legal.specs.Moments.{Moment}
-use Rattle.mon_legal.specs.Moments.Moment.{Is}
+use Rattle.mon_legal.specs.Moments.Moment.{Is, Went}
 use Rattle.mon_legal.specs.Jobs.{openings}
 use Rattle.mon_legal.specs.Barriers as history
 use Rattle.mon_legal.specs.Edits.{entries}
 use Rattle.mon_legal.specs.Sessions.{part, parts_of, open_ones, open_with_slot, other_datapaths, view, is_open, next_slot, slot_of, slot_version, changes}
 use Rattle.mon_legal.specs.Passing.{FramesGoInOrder, NothingIsLeft}
+use Rattle.mon_legal.specs.Lines.{Line, Always}
+use Rattle.mon_legal.specs.Lasting.{SessionsLast}
 use Rattle.mon_legal.specs.Probing.{ProbesSeparate}
 use Rattle.mon_legal.specs.Ticking.{AllCame, before_tick}
 use Rattle.mon_legal.specs.Watches.{MissingCame}
@@ -110,3 +112,15 @@ EventsAreLawful = (run : Run) (f : List Moment) (event : Event) → AreLawful ru
 abbrev pub WholeTurns : Type 0
 WholeTurns = (run : Run) (f : List Moment) → FramesGoInOrder run f → ProbesSeparate run f → NothingIsLeft run f
     → AllCame run f → MissingCame run f (before_tick f) → HasEnded run f
+
+-- a probe goes out to the switch of a session that is open
+abbrev pub GoesToOpen : Run → List Moment → Moment → Type 0
+GoesToOpen run f (Went s serial near frame lost) = is_open (part run near f) ≡ true
+GoesToOpen run f m = Unit {0}
+
+abbrev pub ProbesGoToOpen : Run → List Moment → Type 0
+ProbesGoToOpen run f = Line (GoesToOpen run) Always f
+
+-- the line on sessions follows from the order of moments, and from where probes go
+abbrev pub SessionsFollow : Type 0
+SessionsFollow = (run : Run) (f : List Moment) → HasRoom run f → FramesGoInOrder run f → ProbesSeparate run f → ProbesGoToOpen run f → SessionsLast run f

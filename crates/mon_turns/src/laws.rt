@@ -1,6 +1,6 @@
 //! What the definitions of the core say, whatever the history. These functions do nothing: each is its law.
 
-ghost use Rattle.mon_turns.specs.Laws.{OneLogOneState, GatesAreTheHistorys, ArmedAreTheHistorys, OpeningsStand, FreeSlotIsNext, OpenHaveSlots, OpenUntilTheEnd, TurnedAway, IdleStands, VersionsRise, ViewsAreTheHistorys, OthersAreTheHistorys, EventsAreLawful, WholeTurns};
+ghost use Rattle.mon_turns.specs.Laws.{OneLogOneState, GatesAreTheHistorys, ArmedAreTheHistorys, OpeningsStand, FreeSlotIsNext, OpenHaveSlots, OpenUntilTheEnd, TurnedAway, IdleStands, VersionsRise, ViewsAreTheHistorys, OthersAreTheHistorys, EventsAreLawful, WholeTurns, SessionsFollow};
 
 /// A log fixes the state of the core that stands for it.
 pub fn one_log_gives_one_state()
@@ -70,4 +70,9 @@ pub fn events_are_lawful()
 /// Where nothing comes next the turn has ended by every line of legality, but for what a tick asks for.
 pub fn turns_end_where_nothing_comes()
     ensures { WholeTurns }
+{}
+
+/// How sessions begin, are armed and end follows from the order of moments, where probes go to sessions that are open.
+pub fn sessions_follow_from_the_order()
+    ensures { SessionsFollow }
 {}
