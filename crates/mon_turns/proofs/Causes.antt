@@ -57,7 +57,7 @@ use Rattle.mon_turns.proofs.Events.{probed-own}
 use Rattle.mon_turns.proofs.Alone.{Alone, Sees, sees-one, from-one, unseen-none, neighbour-owed, only-one, stays-first, quiet-unless, is_meets, is_alone, alone-first, its-line, hears-due, due-open, ticks-not, frames-not, returns-not, acts-not, never}
 use Rattle.mon_turns.proofs.Alone.Sees.{Yes, No}
 
-differ : (n s r : ℕ) → n ≡ s → (r == s) ≡ false → (n == r) ≡ false
+pub differ : (n s r : ℕ) → n ≡ s → (r == s) ≡ false → (n == r) ≡ false
 differ n s r same x = subst (λ (k : ℕ). (k == r) ≡ false) (sym same) (turned r s x)
 
 abbrev Quiet : Run → List Moment → Type 0
@@ -117,7 +117,7 @@ alone-broke run f r side fault s d q e =
     let one = single run f (Broke r side fault) r (Breaks fault) s d (λ t. refl) q e in
     record { next_is = one.next_is; by = (one.same, one.leads) }
 
-judged-only : (b : Bool) (run : Run) (parts : Parts) (f : List Moment) (j : Job) (kind : Kind)
+pub judged-only : (b : Bool) (run : Run) (parts : Parts) (f : List Moment) (j : Job) (kind : Kind)
     → judged_if b run parts f j kind ≡ only b (Judged j.number j.edit kind (j.version == version_for run parts j.session f) ∷ [])
 judged-only true run parts f j kind = refl
 judged-only false run parts f j kind = refl
@@ -175,7 +175,7 @@ went-clash run f s r (Tells l) serial near frame lost c a = absurd (let g : Went
 went-clash run f s r (Ending why) serial near frame lost c a = absurd (let g : Went r serial near frame lost ≡ Is (End s) = c in cc)
 went-clash run f s r (Probing job k) serial near frame lost c a = absurd (let g : Went r serial near frame lost ≡ Is (Noted (Probe (last_serial run f + 1) job c.0)) = c.1 in cc)
 
-abbrev line_told : Moment → Line
+abbrev pub line_told : Moment → Line
 line_told (Is (Noted (Report l))) = l
 line_told m = line.Closed 0 causes.Lost
 
@@ -265,7 +265,7 @@ alone-report run f l s d false fit live ih c a y e =
     false≢true (sym y ∙ both)
 
 -- an end
-end-dues : (run : Run) (f : List Moment) (r t : ℕ) → (r == t) ≡ false → owed run t (part run t (Is (End r) ∷ f)) ≡ owed run t (part run t f)
+pub end-dues : (run : Run) (f : List Moment) (r t : ℕ) → (r == t) ≡ false → owed run t (part run t (Is (End r) ∷ f)) ≡ owed run t (part run t f)
 end-dues run f r t e =
     let P = parts_of run f in
     ap (λ (b : Bool). owed run t (if_open P t (only b (Ends ∷ []) ++ neighbour_if run P t r (is_armed (part run r f))) ++ part run t f)) e
@@ -384,7 +384,7 @@ alone-probe run f serial number x s d just ih a e = just
 
 -- frames ------------------------------------------------------------------------------------
 
-from-only : (b : Bool) (run : Run) (parts : Parts) (r : ℕ) (f : List Moment) (frame : List ℕ) → of_frame b run parts r f Controller frame ≡ only b (From_controller frame ∷ [])
+pub from-only : (b : Bool) (run : Run) (parts : Parts) (r : ℕ) (f : List Moment) (frame : List ℕ) → of_frame b run parts r f Controller frame ≡ only b (From_controller frame ∷ [])
 from-only true run parts r f frame = refl
 from-only false run parts r f frame = refl
 
@@ -416,12 +416,12 @@ returned-is key parts r frame None x os e = absurd (let k : [] ≡ x ∷ os = e 
 returned-is key parts r frame (Some found) x os e = with-is key (datapath (parts r)) frame found.0 found.1 x os e
 
 -- a session that is not open sees nothing of a frame
-gone-came : (run : Run) (f : List Moment) (r s : ℕ) (side : Side) (frame : List ℕ) → is_open (part run s f) ≡ false → part run s (Came r side frame ∷ f) ≡ part run s f
+pub gone-came : (run : Run) (f : List Moment) (r s : ℕ) (side : Side) (frame : List ℕ) → is_open (part run s f) ≡ false → part run s (Came r side frame ∷ f) ≡ part run s f
 gone-came run f r s side frame e =
     ap (λ (xs : List Own). xs ++ part run s f) (open-none (parts_of run f) s (sees run (parts_of run f) s f (Came r side frame)) e)
 
 -- no return: the session of the switch sees the frame, and the others at most that a neighbour came
-frame-own : (run : Run) (f : List Moment) (s : ℕ) (frame : List ℕ) → is_open (part run s f) ≡ true → returned run (parts_of run f) s Switch frame ≡ []
+pub frame-own : (run : Run) (f : List Moment) (s : ℕ) (frame : List ℕ) → is_open (part run s f) ≡ true → returned run (parts_of run f) s Switch frame ≡ []
     → part run s (Came s Switch frame ∷ f) ≡ From_switch frame (taken_at run f s frame) ∷ part run s f
 frame-own run f s frame there none =
     let P = parts_of run f in
@@ -431,7 +431,7 @@ frame-own run f s frame there none =
     ∙ ap (λ (b : Bool). if_open P s (of_frame b run P s f Switch frame) ++ p) (same-number s)
     ∙ ap (λ (b : Bool). only b (From_switch frame (taken_at run f s frame) ∷ []) ++ p) there
 
-frame-other : (run : Run) (f : List Moment) (r t : ℕ) (frame : List ℕ) → returned run (parts_of run f) r Switch frame ≡ [] → (r == t) ≡ false
+pub frame-other : (run : Run) (f : List Moment) (r t : ℕ) (frame : List ℕ) → returned run (parts_of run f) r Switch frame ≡ [] → (r == t) ≡ false
     → owed run t (part run t (Came r Switch frame ∷ f)) ≡ owed run t (part run t f)
 frame-other run f r t frame none e =
     let P = parts_of run f in

@@ -382,7 +382,7 @@ abbrev ender_of : Moment → ℕ
 ender_of (Is (End s)) = s
 ender_of m = 0
 
-put-open : (run : Run) (f : List Moment) (s : ℕ) (to : Side) (frame : List ℕ) (lost : Bool) → Ready run f → Meeting run f (next run f) (Is (Put s to frame lost)) → is_open (part run s f) ≡ true
+pub put-open : (run : Run) (f : List Moment) (s : ℕ) (to : Side) (frame : List ℕ) (lost : Bool) → Ready run f → Meeting run f (next run f) (Is (Put s to frame lost)) → is_open (part run s f) ≡ true
 put-open run f s to frame lost ready (By_due q due is c) =
     subst (λ (r : ℕ). is_open (part run r f) ≡ true) (sym (put-met run f q s due to frame lost c)) (met-open run f q due (Is (Put s to frame lost)) ready is c refl)
 put-open run f s to frame lost ready (By_loss q is c) = absurd (let g : Is (Put s to frame lost) ≡ Is (End q) = c in cc)
@@ -421,7 +421,7 @@ works-open run f (Did s act) ready order there = (did-is-due run f s act order.1
 
 -- ends ------------------------------------------------------------------------------------------
 
-abbrev came_open : Run → List Moment → Type 0
+abbrev pub came_open : Run → List Moment → Type 0
 came_open run [] = Unit {0}
 came_open run (m ∷ f) = IfSome (worker m) (λ s. is_open (part run s f) ≡ true)
 
@@ -634,7 +634,7 @@ armed-lone : (l : ReportLine) → is_armed_line l ≡ true → is_alone (sort_of
 armed-lone (line.Armed s d t) e = refl
 armed-lone l e = absurd (false≢true e)
 
-not-from : {A : Type 0} (test : Sort → Bool) (x y : Sort) → x ≡ y → test y ≡ false → test x ≡ true → A
+pub not-from : {A : Type 0} (test : Sort → Bool) (x y : Sort) → x ≡ y → test y ≡ false → test x ≡ true → A
 not-from test x y e n t = absurd (false≢true (sym n ∙ (sym (ap test e) ∙ t)))
 
 no-closed : (run : Run) (f : List Moment) (l : ReportLine) (q : ℕ) → is_closed_line l ≡ true → CausedBy run f q (Tells l) → closed_line run f ≡ None → ⊥
@@ -737,7 +737,7 @@ lasts run f m ready there before order goes = record {
   silent = works-open run f m ready order goes;
 }
 
-now-open : (run : Run) (f : List Moment) → HasRoom run f → FramesGoInOrder run f → ProbesSeparate run f → ProbesGoToOpen run f → came_open run f
+pub now-open : (run : Run) (f : List Moment) → HasRoom run f → FramesGoInOrder run f → ProbesSeparate run f → ProbesGoToOpen run f → came_open run f
 now-open run [] room order probes goes = tt
 now-open run (m ∷ f) room order probes goes = works-open run f m (record { room = room-before run m f room; order = order.2; probes = probes.2 }) order goes.1
 

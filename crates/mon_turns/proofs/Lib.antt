@@ -26,3 +26,7 @@ pub mod Live
 pub mod Alone
 pub mod Causes
 pub mod Lasts
+pub mod Behind
+pub mod Closings
+pub mod Telling
+pub mod Unmonitored

@@ -72,7 +72,7 @@ no-closing : (b : Bool) (v : Viewing) (t : List Rule) (edits : List Passed) (clo
 no-closing true v t edits closings replies waits parts e k = first-none (due_closing edits closings) (or_else (due_reply edits replies) (due_step v t edits waits parts)) e
 no-closing false v t edits closings replies waits parts e k = ap (due_closing edits) (k refl)
 
-closings-came : (run : Run) (f : List Moment) → FramesGoInOrder run f → ProbesSeparate run f → next run f ≡ Nothing → ClosingsCame run f
+pub closings-came : (run : Run) (f : List Moment) → FramesGoInOrder run f → ProbesSeparate run f → next run f ≡ Nothing → ClosingsCame run f
 closings-came run f order probes e =
     none-due run f (λ s. due_closing (unsettled (part run s f)) (postponed (part run s f)) ≡ None) e
     (λ s n. let own = part run s f in

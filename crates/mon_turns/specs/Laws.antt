@@ -20,7 +20,9 @@ use Rattle.mon_legal.specs.Lines.{Line, Always}
 use Rattle.mon_legal.specs.Lasting.{SessionsLast}
 use Rattle.mon_legal.specs.Probing.{ProbesSeparate}
 use Rattle.mon_legal.specs.Ticking.{AllCame, before_tick}
-use Rattle.mon_legal.specs.Watches.{MissingCame}
+use Rattle.mon_legal.specs.Watches.{MissingCame, unwatchable_line}
+use Rattle.mon_legal.specs.Reports.{Exactly, is_what, is_of_passing, is_indistinguishable, is_watch_line, is_unwatchable}
+use Rattle.mon_legal.specs.Unmonitorable.{UnmonitorableAreReported, answered_line, passed_line, ProbeFollows, BarrierFollows}
 use Rattle.mon_legal.specs.Legal.{AreLawful, HasEnded, gated}
 use Rattle.mon_turns.specs.Core.{State, now_at, state_of, gates, armed}
 use Rattle.mon_turns.specs.Around.{viewed, others}
@@ -124,3 +126,22 @@ ProbesGoToOpen run f = Line (GoesToOpen run) Always f
 -- the line on sessions follows from the order of moments, and from where probes go
 abbrev pub SessionsFollow : Type 0
 SessionsFollow = (run : Run) (f : List Moment) → HasRoom run f → FramesGoInOrder run f → ProbesSeparate run f → ProbesGoToOpen run f → SessionsLast run f
+
+-- behind an answer comes its report exactly where one is due, and the note of its probe
+abbrev pub AnswersAreFollowed : Type 0
+AnswersAreFollowed = (run : Run) (f : List Moment) (m : Moment) → HasRoom run (m ∷ f) → FramesGoInOrder run (m ∷ f) → ProbesSeparate run (m ∷ f)
+    → Exactly (answered_line run f) (is_what is_indistinguishable) m × Exactly (unwatchable_line run f) (is_watch_line is_unwatchable) m × ProbeFollows run f m
+
+-- behind the frame of an edit comes its report, exactly where one is due
+abbrev pub EditsAreFollowed : Type 0
+EditsAreFollowed = (run : Run) (f : List Moment) (m : Moment) → HasRoom run (m ∷ f) → FramesGoInOrder run (m ∷ f) → ProbesSeparate run (m ∷ f) → ProbesGoToOpen run f
+    → Exactly (passed_line run f) (is_what is_of_passing) m
+
+-- behind a report comes its own barrier
+abbrev pub BarriersFollow : Type 0
+BarriersFollow = (run : Run) (f : List Moment) (m : Moment) → HasRoom run (m ∷ f) → FramesGoInOrder run (m ∷ f) → ProbesSeparate run (m ∷ f) → ProbesGoToOpen run f
+    → BarrierFollows run f m
+
+-- the line on updates that no probe is to show follows from the order of moments, and from where probes go
+abbrev pub UnmonitorableFollow : Type 0
+UnmonitorableFollow = (run : Run) (f : List Moment) → HasRoom run f → FramesGoInOrder run f → ProbesSeparate run f → ProbesGoToOpen run f → UnmonitorableAreReported run f

@@ -1,6 +1,6 @@
 //! What the definitions of the core say, whatever the history. These functions do nothing: each is its law.
 
-ghost use Rattle.mon_turns.specs.Laws.{OneLogOneState, GatesAreTheHistorys, ArmedAreTheHistorys, OpeningsStand, FreeSlotIsNext, OpenHaveSlots, OpenUntilTheEnd, TurnedAway, IdleStands, VersionsRise, ViewsAreTheHistorys, OthersAreTheHistorys, EventsAreLawful, WholeTurns, SessionsFollow};
+ghost use Rattle.mon_turns.specs.Laws.{OneLogOneState, GatesAreTheHistorys, ArmedAreTheHistorys, OpeningsStand, FreeSlotIsNext, OpenHaveSlots, OpenUntilTheEnd, TurnedAway, IdleStands, VersionsRise, ViewsAreTheHistorys, OthersAreTheHistorys, EventsAreLawful, WholeTurns, SessionsFollow, AnswersAreFollowed, EditsAreFollowed, BarriersFollow, UnmonitorableFollow};
 
 /// A log fixes the state of the core that stands for it.
 pub fn one_log_gives_one_state()
@@ -75,4 +75,25 @@ pub fn turns_end_where_nothing_comes()
 /// How sessions begin, are armed and end follows from the order of moments, where probes go to sessions that are open.
 pub fn sessions_follow_from_the_order()
     ensures { SessionsFollow }
+{}
+
+/// Behind an answer comes its report exactly where one is due, and the note of its probe.
+pub fn answers_are_followed()
+    ensures { AnswersAreFollowed }
+{}
+
+/// Behind the frame of an edit comes its report, exactly where one is due.
+pub fn edits_are_followed()
+    ensures { EditsAreFollowed }
+{}
+
+/// Behind a report comes its own barrier.
+pub fn barriers_follow()
+    ensures { BarriersFollow }
+{}
+
+/// Which updates are reported as ones that no probe is to show follows from the order of moments, where probes go to sessions
+/// that are open.
+pub fn unmonitorable_updates_follow_from_the_order()
+    ensures { UnmonitorableFollow }
 {}
