@@ -55,7 +55,7 @@ sum-idle : (run : Run) (f : List Moment) (slot : ℕ) (placed : List Placed) →
 sum-idle run f slot [] = refl
 sum-idle run f slot (p ∷ placed) = ap (λ (n : ℕ). cond (p.slot == slot) (changes (part run p.session f)) 0 + n) (sum-idle run f slot placed)
 
-version-idle : (run : Run) (f : List Moment) (slot : ℕ) → slot_version run slot (Is (Given Idle) ∷ f) ≡ slot_version run slot f
+pub version-idle : (run : Run) (f : List Moment) (slot : ℕ) → slot_version run slot (Is (Given Idle) ∷ f) ≡ slot_version run slot f
 version-idle run f slot = sum-idle run f slot (placements run f)
 
 versions-idle : (run : Run) (f : List Moment) → versions_of run (Is (Given Idle) ∷ f) ≡ versions_of run f
@@ -63,7 +63,7 @@ versions-idle run f =
     map-same (λ slot. slot_version run slot (Is (Given Idle) ∷ f)) (λ slot. slot_version run slot f) (range_with_len 0 64)
     (all-units (λ slot. slot_version run slot (Is (Given Idle) ∷ f) ≡ slot_version run slot f) (range_with_len 0 64) (version-idle run f))
 
-version-of-idle : (run : Run) (f : List Moment) (o : Option ℕ) → version_or run (parts_of run (Is (Given Idle) ∷ f)) o (Is (Given Idle) ∷ f) ≡ version_or run (parts_of run f) o f
+pub version-of-idle : (run : Run) (f : List Moment) (o : Option ℕ) → version_or run (parts_of run (Is (Given Idle) ∷ f)) o (Is (Given Idle) ∷ f) ≡ version_or run (parts_of run f) o f
 version-of-idle run f None = refl
 version-of-idle run f (Some slot) = version-idle run f slot
 

@@ -30,3 +30,4 @@ pub mod Behind
 pub mod Closings
 pub mod Telling
 pub mod Unmonitored
+pub mod Givens

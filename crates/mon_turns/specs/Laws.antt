@@ -28,7 +28,7 @@ use Rattle.mon_turns.specs.Core.{State, now_at, state_of, gates, armed}
 use Rattle.mon_turns.specs.Around.{viewed, others}
 use Rattle.mon_turns.specs.Slots.{free_slot}
 use Rattle.mon_turns.specs.Opening.{HasRoom, opened_in, refused}
-use Rattle.mon_turns.specs.Standing.{StandsFor}
+use Rattle.mon_turns.specs.Standing.{StandsFor, StoodFor, WasGiven}
 
 -- the moment is the end of the session
 abbrev pub ends_it : ℕ → Moment → Bool
@@ -145,3 +145,11 @@ BarriersFollow = (run : Run) (f : List Moment) (m : Moment) → HasRoom run (m �
 -- the line on updates that no probe is to show follows from the order of moments, and from where probes go
 abbrev pub UnmonitorableFollow : Type 0
 UnmonitorableFollow = (run : Run) (f : List Moment) → HasRoom run f → FramesGoInOrder run f → ProbesSeparate run f → ProbesGoToOpen run f → UnmonitorableAreReported run f
+
+-- where the core stood for all before an event, the log with the event is that of a lawful history
+abbrev pub GivenStand : Type 0
+GivenStand = (run : Run) (event : Event) (core : State) (tasks : List Task) (calls : Option (List (List ℕ))) (h : List Entry) → WasGiven run event core tasks calls h → StoodFor run calls h
+
+-- and where nothing came it stands for that log as it is
+abbrev pub NothingStands : Type 0
+NothingStands = (run : Run) (core : State) (tasks : List Task) (calls : Option (List (List ℕ))) (h : List Entry) → WasGiven run Idle core tasks calls h → StandsFor run core tasks calls h

@@ -1,6 +1,6 @@
 //! What the definitions of the core say, whatever the history. These functions do nothing: each is its law.
 
-ghost use Rattle.mon_turns.specs.Laws.{OneLogOneState, GatesAreTheHistorys, ArmedAreTheHistorys, OpeningsStand, FreeSlotIsNext, OpenHaveSlots, OpenUntilTheEnd, TurnedAway, IdleStands, VersionsRise, ViewsAreTheHistorys, OthersAreTheHistorys, EventsAreLawful, WholeTurns, SessionsFollow, AnswersAreFollowed, EditsAreFollowed, BarriersFollow, UnmonitorableFollow};
+ghost use Rattle.mon_turns.specs.Laws.{OneLogOneState, GatesAreTheHistorys, ArmedAreTheHistorys, OpeningsStand, FreeSlotIsNext, OpenHaveSlots, OpenUntilTheEnd, TurnedAway, IdleStands, VersionsRise, ViewsAreTheHistorys, OthersAreTheHistorys, EventsAreLawful, WholeTurns, SessionsFollow, AnswersAreFollowed, EditsAreFollowed, BarriersFollow, UnmonitorableFollow, GivenStand, NothingStands};
 
 /// A log fixes the state of the core that stands for it.
 pub fn one_log_gives_one_state()
@@ -96,4 +96,14 @@ pub fn barriers_follow()
 /// that are open.
 pub fn unmonitorable_updates_follow_from_the_order()
     ensures { UnmonitorableFollow }
+{}
+
+/// Where the core stood for all before an event, the log with the event is that of a lawful history.
+pub fn events_stand_behind_turns()
+    ensures { GivenStand }
+{}
+
+/// Where nothing came the core stands for the log as it is, by every line, with its jobs and its gates.
+pub fn nothing_that_came_stands()
+    ensures { NothingStands }
 {}
