@@ -1,7 +1,6 @@
 -- A log that ends in an event is that of a lawful history, and where nothing came the core stands for it.
-use Rattle.std.proofs.Common.{◌≡◌, ℕ, ◌+◌, ◌^◌, ◌<◌, zero, suc, Bool, false, ◌||◌, nat_le, List, [], ◌∷◌, ◌++◌, length, Option, Some, None, refl, sym, ap, subst, ◌∙◌, arith}
-use Rattle.std.specs.Prelude.{replicate}
-use Rattle.std.specs.List.{AllByRecursion, list_any, range_with_len}
+use Rattle.std.proofs.Common.{◌≡◌, ℕ, ◌+◌, ◌^◌, ◌<◌, Bool, ◌||◌, nat_le, List, [], ◌∷◌, length, Option, refl, sym, ap, subst, ◌∙◌, arith}
+use Rattle.std.specs.List.{list_any, range_with_len}
 use Rattle.mon_job.specs.Jobs.{Task}
 use Rattle.mon_world.specs.declared.event.Event.{Event}
 use Rattle.mon_world.specs.declared.event.Event.TheVariants.{Idle}
@@ -10,13 +9,13 @@ use Rattle.mon_world.specs.declared.history.Entry.TheVariants.{Given}
 use Rattle.mon_legal.specs.Runs.{Run}
 use Rattle.mon_legal.specs.Moments.{Moment, shown}
 use Rattle.mon_legal.specs.Moments.Moment.{Is}
-use Rattle.mon_legal.specs.Sessions.{opened, slot_version, version, slot_of}
+use Rattle.mon_legal.specs.Sessions.{opened, slot_version, slot_of}
 use Rattle.mon_legal.specs.Jobs.{last_serial, last_job}
 use Rattle.mon_legal.specs.Legal.{gated}
 use Rattle.mon_turns.specs.Core.{State, SLOTS}
-use Rattle.mon_turns.specs.Around.{AsksThePresent, IsPresent}
+use Rattle.mon_turns.specs.Around.{IsPresent}
 use Rattle.mon_turns.specs.Gates.{AreGates, GatesWere}
-use Rattle.mon_turns.specs.Standing.{StandsFor, StoodFor, WasGiven, is_over}
+use Rattle.mon_turns.specs.Standing.{WasGiven, is_over}
 use Rattle.mon_turns.specs.Laws.{GivenStand, NothingStands}
 use Rattle.mon_turns.proofs.Born.{all-weaker}
 use Rattle.mon_turns.proofs.Events.{events-are-lawful}

@@ -31,3 +31,4 @@ pub mod Closings
 pub mod Telling
 pub mod Unmonitored
 pub mod Givens
+pub mod Settling

@@ -18,10 +18,11 @@ use Rattle.mon_legal.specs.Sessions.{part, parts_of, open_ones, open_with_slot, 
 use Rattle.mon_legal.specs.Passing.{FramesGoInOrder, NothingIsLeft}
 use Rattle.mon_legal.specs.Lines.{Line, Always}
 use Rattle.mon_legal.specs.Lasting.{SessionsLast}
+use Rattle.mon_legal.specs.Confirming.{settled_line}
 use Rattle.mon_legal.specs.Probing.{ProbesSeparate}
 use Rattle.mon_legal.specs.Ticking.{AllCame, before_tick}
 use Rattle.mon_legal.specs.Watches.{MissingCame, unwatchable_line}
-use Rattle.mon_legal.specs.Reports.{Exactly, is_what, is_of_passing, is_indistinguishable, is_watch_line, is_unwatchable}
+use Rattle.mon_legal.specs.Reports.{Exactly, is_what, is_settled, is_of_passing, is_indistinguishable, is_watch_line, is_unwatchable}
 use Rattle.mon_legal.specs.Unmonitorable.{UnmonitorableAreReported, answered_line, passed_line, ProbeFollows, BarrierFollows}
 use Rattle.mon_legal.specs.Legal.{AreLawful, HasEnded, gated}
 use Rattle.mon_turns.specs.Core.{State, now_at, state_of, gates, armed}
@@ -153,3 +154,8 @@ GivenStand = (run : Run) (event : Event) (core : State) (tasks : List Task) (cal
 -- and where nothing came it stands for that log as it is
 abbrev pub NothingStands : Type 0
 NothingStands = (run : Run) (core : State) (tasks : List Task) (calls : Option (List (List ℕ))) (h : List Entry) → WasGiven run Idle core tasks calls h → StandsFor run core tasks calls h
+
+-- behind the reply to an own barrier comes that its edit is settled, exactly where it was not
+abbrev pub SettlingsFollow : Type 0
+SettlingsFollow = (run : Run) (f : List Moment) (m : Moment) → HasRoom run (m ∷ f) → FramesGoInOrder run (m ∷ f) → ProbesSeparate run (m ∷ f) → ProbesGoToOpen run f
+    → Exactly (settled_line run f) (is_what is_settled) m

@@ -1,6 +1,6 @@
 //! What the definitions of the core say, whatever the history. These functions do nothing: each is its law.
 
-ghost use Rattle.mon_turns.specs.Laws.{OneLogOneState, GatesAreTheHistorys, ArmedAreTheHistorys, OpeningsStand, FreeSlotIsNext, OpenHaveSlots, OpenUntilTheEnd, TurnedAway, IdleStands, VersionsRise, ViewsAreTheHistorys, OthersAreTheHistorys, EventsAreLawful, WholeTurns, SessionsFollow, AnswersAreFollowed, EditsAreFollowed, BarriersFollow, UnmonitorableFollow, GivenStand, NothingStands};
+ghost use Rattle.mon_turns.specs.Laws.{OneLogOneState, GatesAreTheHistorys, ArmedAreTheHistorys, OpeningsStand, FreeSlotIsNext, OpenHaveSlots, OpenUntilTheEnd, TurnedAway, IdleStands, VersionsRise, ViewsAreTheHistorys, OthersAreTheHistorys, EventsAreLawful, WholeTurns, SessionsFollow, AnswersAreFollowed, EditsAreFollowed, BarriersFollow, UnmonitorableFollow, GivenStand, NothingStands, SettlingsFollow};
 
 /// A log fixes the state of the core that stands for it.
 pub fn one_log_gives_one_state()
@@ -106,4 +106,9 @@ pub fn events_stand_behind_turns()
 /// Where nothing came the core stands for the log as it is, by every line, with its jobs and its gates.
 pub fn nothing_that_came_stands()
     ensures { NothingStands }
+{}
+
+/// Behind the reply to an own barrier comes that its edit is settled, exactly where it was not.
+pub fn settlings_follow_from_the_order()
+    ensures { SettlingsFollow }
 {}

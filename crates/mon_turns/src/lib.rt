@@ -31,9 +31,10 @@ pub use laws::{
     gates_are_those_of_the_history, idle_stands, nothing_that_came_stands, one_log_gives_one_state,
     open_sessions_have_slots, openings_stand, others_are_those_of_the_history,
     sessions_are_open_until_their_end, sessions_follow_from_the_order,
-    sessions_without_a_slot_are_turned_away, the_free_slot_is_the_next,
-    turns_end_where_nothing_comes, unmonitorable_updates_follow_from_the_order,
-    versions_rise_with_their_session, views_are_those_of_the_history,
+    sessions_without_a_slot_are_turned_away, settlings_follow_from_the_order,
+    the_free_slot_is_the_next, turns_end_where_nothing_comes,
+    unmonitorable_updates_follow_from_the_order, versions_rise_with_their_session,
+    views_are_those_of_the_history,
 };
 pub use mon_list::OutOfMemory;
 pub use numbers::Numbers;
