@@ -107,7 +107,7 @@ answer-due run (Is (Noted (Verdict number k)) ∷ f) l e =
 answer-due run [] l e = absurd (let g : None ≡ Some l = e in cc)
 answer-due run (m ∷ f) l e = absurd (let g : None ≡ Some l = e in cc)
 
-abbrev is_tells : Due → Bool
+abbrev pub is_tells : Due → Bool
 is_tells (Tells l) = true
 is_tells d = false
 

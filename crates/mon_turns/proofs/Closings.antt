@@ -22,6 +22,7 @@ use Rattle.mon_legal.specs.Directly.{Due, owed, owes, on_edit, on_act, fact, is_
 use Rattle.mon_legal.specs.Directly.Due.{Frame}
 use Rattle.mon_legal.specs.Ordering.{first_due}
 use Rattle.mon_legal.proofs.Fitting.{AllFit}
+use Rattle.mon_turns.proofs.Dues.{empty-of}
 use Rattle.mon_turns.proofs.Leads.{Sort, sort_of, leads_to, AllFrom, leads}
 
 -- what is told of a closing -----------------------------------------------------------------
@@ -79,10 +80,6 @@ untold run s o before n = all-untold (leads_to o) (owes run s (owed run s before
 
 abbrev passes : List Own → Bool
 passes before = is_edit before && not (is_closing before)
-
-empty-of : (dues : List Due) → first_due dues ≡ None → dues ≡ []
-empty-of [] e = refl
-empty-of (due ∷ dues) e = absurd (let g : Some due ≡ None = e in cc)
 
 pub edit-alone : (run : Run) (s : ℕ) (before : List Own) → AllFit run s before → passes before ≡ true → drop 1 (owed run s before) ≡ []
 edit-alone run s (Acts (Step Switch frame (Some change)) ∷ before) fit e = empty-of (owed run s before) fit.0.2

@@ -146,7 +146,7 @@ well-drop (due ∷ dues) w = record { late = late-drop dues w.late; sole = late-
 well-append : (xs ys : List Due) → Well xs → ends_in xs ≡ false → AllLate ys → Followed ys → Well (xs ++ ys)
 well-append xs ys w e a b = record { late = drop-append xs ys w.late a; sole = sole-append xs ys e a; followed = followed-append xs ys w.followed b }
 
-empty-of : (dues : List Due) → first_due dues ≡ None → dues ≡ []
+pub empty-of : (dues : List Due) → first_due dues ≡ None → dues ≡ []
 empty-of [] e = refl
 empty-of (due ∷ dues) e = absurd (let g : Some due ≡ None = e in cc)
 

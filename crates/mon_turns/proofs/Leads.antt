@@ -36,7 +36,7 @@ use Rattle.mon_legal.specs.Directly.Due.{Frame, Tells, Ending, Probing, Going}
 use Rattle.mon_legal.specs.Ordering.{first_due}
 use Rattle.mon_legal.proofs.Coming.{some-same}
 use Rattle.mon_legal.proofs.Fitting.{AllFit}
-use Rattle.mon_turns.proofs.Dues.{is_late, AllLate, well-owed}
+use Rattle.mon_turns.proofs.Dues.{is_late, AllLate, well-owed, empty-of}
 
 -- the sorts of what is due ----------------------------------------------------------
 
@@ -296,10 +296,6 @@ pub record Origin (run : Run) (s : ℕ) (d : Due) (seen : List Own) : Type 0 whe
 pub first-from : (test : Sort → Bool) (dues : List Due) (d : Due) → AllFrom test dues → first_due dues ≡ Some d → test (sort_of d) ≡ true
 first-from test [] d a e = absurd (let g : None ≡ Some d = e in cc)
 first-from test (x ∷ dues) d a e = subst (λ (y : Due). test (sort_of y) ≡ true) (some-same x d e) a.0
-
-empty-of : (dues : List Due) → first_due dues ≡ None → dues ≡ []
-empty-of [] e = refl
-empty-of (due ∷ dues) e = absurd (let g : Some due ≡ None = e in cc)
 
 pub behind-none : (xs dues : List Due) (d : Due) → first_due dues ≡ None → first_due (xs ++ dues) ≡ Some d → first_due xs ≡ Some d
 behind-none xs dues d e g = ap first_due (sym (append-nil xs) ∙ ap (λ (ds : List Due). xs ++ ds) (sym (empty-of dues e))) ∙ g

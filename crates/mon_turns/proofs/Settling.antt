@@ -1,5 +1,5 @@
 -- An edit is told to be settled exactly where its own barrier is answered.
-use Rattle.std.proofs.Common.{◌≡◌, ℕ, Bool, true, false, cond, not, ◌&&◌, List, [], ◌∷◌, ◌++◌, Option, Some, None, refl, sym, ap, subst, ◌∙◌}
+use Rattle.std.proofs.Common.{◌≡◌, ℕ, true, false, cond, not, ◌&&◌, List, [], ◌∷◌, ◌++◌, Option, Some, None, refl, sym, ap, subst, ◌∙◌}
 use Rattle.std.specs.Prelude.{◌==◌}
 use Rattle.std.proofs.lemmas.Bool.{false≢true}
 use Rattle.of_msgs.specs.Layout.{datapath_of}
@@ -37,13 +37,10 @@ use Rattle.mon_turns.proofs.Leads.{Sort, sort_of, is_closed, is_end, from_answer
 use Rattle.mon_turns.proofs.Live.{room-before}
 use Rattle.mon_turns.proofs.Asked.{asks-settled}
 use Rattle.mon_turns.proofs.Alone.{CausedBy, is_alone}
+use Rattle.mon_turns.proofs.Behind.{is_tells}
 use Rattle.mon_turns.proofs.Lasts.{came_open, now-open, exactly, not-from}
 
 -- a line is due first of what a frame of the switch leads to --------------------------------------
-
-abbrev is_tells : Due → Bool
-is_tells (Tells l) = true
-is_tells d = false
 
 abbrev line_of : Due → ReportLine
 line_of (Tells l) = l

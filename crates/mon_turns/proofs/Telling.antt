@@ -30,6 +30,7 @@ use Rattle.mon_legal.specs.Probing.{ProbesSeparate}
 use Rattle.mon_legal.proofs.Coming.{some-same}
 use Rattle.mon_legal.proofs.Fitting.{AllFit, all-fit, quiet-at, same-of}
 use Rattle.mon_turns.specs.Opening.{HasRoom}
+use Rattle.mon_turns.proofs.Dues.{empty-of}
 use Rattle.mon_turns.proofs.Born.{same-number, turned}
 use Rattle.mon_turns.proofs.Leads.{sort_of, leads_to}
 use Rattle.mon_turns.proofs.Seeing.{taken_at, ended-own}
@@ -155,10 +156,6 @@ replaced-both run f q m x e n b c k = (
 
 abbrev Quiet : Run → List Moment → Type 0
 Quiet run f = (r : ℕ) → first_due (owed run r (part run r f)) ≡ None
-
-empty-of : (dues : List Due) → first_due dues ≡ None → dues ≡ []
-empty-of [] e = refl
-empty-of (due ∷ dues) e = absurd (let g : Some due ≡ None = e in cc)
 
 unseen-both : (run : Run) (f : List Moment) (q : ℕ) (m : Moment) → owed run q (part run q (m ∷ f)) ≡ owed run q (part run q f) → Quiet run f → Both run (m ∷ f) q
 unseen-both run f q m e k = vacuous run (m ∷ f) q (subst NoneTold (sym (e ∙ empty-of (owed run q (part run q f)) (k q))) tt)
