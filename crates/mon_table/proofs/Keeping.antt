@@ -13,7 +13,7 @@ use Rattle.mon_table.specs.Tables.{InOrder, AllNormal, IsTable, AllActionsFit, w
 use Rattle.mon_table.proofs.Identities.{other-behind}
 use Rattle.mon_table.proofs.Placing.{behind-more}
 
-all-filter : (P : Rule → Type 0) (p : Rule → Bool) (t : List Rule) → AllByRecursion P t → AllByRecursion P (filter p t)
+pub all-filter : (P : Rule → Type 0) (p : Rule → Bool) (t : List Rule) → AllByRecursion P t → AllByRecursion P (filter p t)
 all-filter P p [] a = a
 all-filter P p (x ∷ t) a = ⊎_elim (λ e. rw e (a.0, all-filter P p t a.1)) (λ e. rw e (all-filter P p t a.1)) (cases_Bool (p x))
 

@@ -6,3 +6,10 @@ pub mod Members
 pub mod Slicing
 pub mod Vanishing
 pub mod Undoing
+pub mod Covering
+pub mod Chunking
+pub mod Seeking
+pub mod Parting
+pub mod Changing
+pub mod Looking
+pub mod Tabling

@@ -1,5 +1,5 @@
 -- Places that pass a test, and which of them win for a header.
-use Rattle.std.proofs.Common.{◌≡◌, ℕ, zero, suc, ◌+◌, ◌<◌, ◌≤◌, Bool, true, false, cond, not, ◌&&◌, ◌||◌, List, [], ◌∷◌, ◌++◌, length, get_or, drop, Some, None, refl, sym, ap, subst, ◌∙◌, arith, inl, inr, ⊎_elim, append_assoc, add-one, drop-cons}
+use Rattle.std.proofs.Common.{◌≡◌, ℕ, zero, suc, ◌+◌, ◌<◌, ◌≤◌, Bool, true, false, cond, not, ◌&&◌, ◌||◌, List, [], ◌∷◌, ◌++◌, length, get_or, drop, refl, sym, ap, subst, ◌∙◌, arith, inl, inr, ⊎_elim, append_assoc, add-one, drop-cons}
 use Rattle.std.specs.Prelude.{nat_le}
 use Rattle.std.specs.List.{list_all, AllByRecursion}
 use Rattle.std.proofs.lemmas.List.{append-nil, drop_all}
@@ -55,7 +55,7 @@ order-drop [] (suc n) o = o
 order-drop (r ∷ t) zero o = o
 order-drop (r ∷ t) (suc n) o = order-drop t n o.1
 
-low-rest : (h : Header) (least : ℕ) (r : Rule) (t : List Rule) → rank r < least → AllByRecursion (λ s. comes_before (identity_of r) (identity_of s) ≡ true) t
+pub low-rest : (h : Header) (least : ℕ) (r : Rule) (t : List Rule) → rank r < least → AllByRecursion (λ s. comes_before (identity_of r) (identity_of s) ≡ true) t
     → AllByRecursion (λ s. is_from_rank h least s ≡ false) t
 low-rest h least r [] low a = tt
 low-rest h least r (s ∷ t) low a =

@@ -56,7 +56,7 @@ behind-more i j (r ∷ t) e b = (comes_before-more i j (identity_of r) e b.0, be
 behind-same : (i j : Identity) (t : List Rule) → same_identity j i ≡ true → Behind j t → Behind i t
 behind-same i j t e b = subst (λ (k : Identity). Behind k t) (same-is j i e) b
 
-not-behind : (i : Identity) (r : Rule) → comes_before i (identity_of r) ≡ true → same_identity (identity_of r) i ≡ false
+pub not-behind : (i : Identity) (r : Rule) → comes_before i (identity_of r) ≡ true → same_identity (identity_of r) i ≡ false
 not-behind i r e = other-turned i (identity_of r) (before-other i (identity_of r) e)
 
 without-behind : (i : Identity) (t : List Rule) → Behind i t → without i t ≡ t

@@ -202,3 +202,57 @@ fn unsure_rules_hide_nothing(rt: HostRuntime) -> Result<(), Fail> {
     assert!(rt; table.may_miss(&DATAGRAM));
     Ok(())
 }
+
+/// The match of the packets that come in at a port.
+fn numbered(number: u16) -> Match {
+    from_port(0x003820fe, number)
+}
+
+/// A table of 300 rules of one priority, each put behind the last or before it, or a step away.
+fn filled(alloc: Global, step: u16) -> Result<Table, OutOfMemory> {
+    let mut table = Table::new(alloc);
+    for turn in 0..300_u16 {
+        let number = (u32::from(turn) * u32::from(step) % 300) as u16;
+        let _ = table.put(rule(alloc, numbered(number), 100, 2)?)?;
+    }
+    Ok(table)
+}
+
+/// Whether each rule of the table stands at the place of its number.
+fn stands_by_number(table: &Table) -> bool {
+    for number in 0..300_u16 {
+        if table.place(&numbered(number), 100) != Some(u32::from(number)) {
+            return false;
+        }
+    }
+    true
+}
+
+#[test]
+fn many_rules_stand_in_order_however_they_come(rt: HostRuntime) -> Result<(), Fail> {
+    let alloc = rt.alloc();
+    // Rising, falling and shuffled.
+    for step in [1, 299, 7] {
+        let mut table = filled(alloc, step)?;
+        assert_eq!(rt; table.len(), 300);
+        assert!(rt; stands_by_number(&table));
+        assert_eq!(rt; table.slice(alloc, &numbered(77))?.len(), 1);
+        for number in 1..300_u16 {
+            assert!(rt; table.cut(&numbered(number), 100)?.is_some());
+        }
+        assert_eq!(rt; table.len(), 1);
+    }
+    Ok(())
+}
+
+#[test]
+fn a_slice_keeps_its_rules_when_the_table_changes(rt: HostRuntime) -> Result<(), Fail> {
+    let alloc = rt.alloc();
+    let mut table = filled(alloc, 1)?;
+    let part = table.slice(alloc, &from_port(0x003820ff, 0))?;
+    assert!(rt; table.cut(&numbered(5), 100)?.is_some());
+    let _ = table.put(rule(alloc, numbered(6), 100, 9)?)?;
+    assert_eq!(rt; part.len(), 300);
+    assert!(rt; stands_by_number(&part));
+    Ok(())
+}

@@ -1,16 +1,14 @@
-use Rattle.std.proofs.Common.{true, false}
-use Rattle.mon_table.specs.Rules.{Identity, identity}
-use Rattle.mon_table.proofs.Placing.{found-at, place-found, place-none}
+use Rattle.mon_table.proofs.Tabling.{place-is-there, place-is-missing}
 use Rattle.mon_table.proofs.table.Table.place.Goals as goal
 
-pub returns-then-stands_at : goal.returns-then-stands_at
-returns-then-stands_at c =
-    let i : Identity = identity c.args.m.now c.args.priority in
-    let t = c.args.self.now in
-    place-found i t c.place_of-place.result c.keeps.ensures.table (found-at i t _ _ true c.place_of-place.ensures.value c.stands_at.ensures.value c.if-stands_at.true)
+pub returns-then-spot : goal.returns-then-spot
+returns-then-spot c =
+    let s = c.in-Some.spot in
+    place-is-there c.effective.result c.args.m.now c.args.priority c.self.inside.chunks.items c.deref.result.now c.deref-then-spot.result.now c.args.self.now s.chunk s.place c.place_in.result s.found
+    c.self.invariant.table c.effective.ensures c.deref.ensures.value c.deref-then-spot.ensures.value c.in-Some.ensures.spot c.if-spot.true c.place_in.ensures c.self.view_is
 
 pub returns : goal.returns
 returns c =
-    let i : Identity = identity c.args.m.now c.args.priority in
-    let t = c.args.self.now in
-    place-none i t c.place_of-place.result c.keeps.ensures.table c.keeps-2.ensures (found-at i t _ _ false c.place_of-place.ensures.value c.stands_at.ensures.value c.if-stands_at.false)
+    let s = c.in-Some.spot in
+    place-is-missing c.effective.result c.args.m.now c.args.priority c.self.inside.chunks.items c.deref.result.now c.args.self.now s.chunk s.place s.found
+    c.self.invariant.table c.keeps.ensures c.effective.ensures c.deref.ensures.value c.in-Some.ensures.spot c.if-spot.false c.self.view_is

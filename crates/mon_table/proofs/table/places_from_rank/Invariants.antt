@@ -1,7 +1,0 @@
-use Rattle.std.proofs.Common.{◌≡◌, ◌++◌, drop}
-use Rattle.mon_table.specs.Tables.{places_from, places}
-use Rattle.mon_table.specs.Places.{is_from_rank}
-use Rattle.mon_table.proofs.table.places_from_rank.Given as goal
-
-abbrev pub invariant-loop-place : goal.invariant-loop-place
-invariant-loop-place l = l.found.items ++ places_from l.place (is_from_rank l.h l.least) (drop l.place l.rules) ≡ places (is_from_rank l.h l.least) l.rules
