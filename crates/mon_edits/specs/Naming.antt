@@ -22,29 +22,22 @@ checks_overlap m = has_flag CHECK_OVERLAP m.flags
 abbrev pub has_timeout : FlowMod → Bool
 has_timeout m = not (m.idle == 0) || not (m.hard == 0)
 
+-- the command looks at the priority, and at one identity alone
+abbrev pub is_strict : Command → Bool
+is_strict ModifyStrict = true
+is_strict DeleteStrict = true
+is_strict other = false
+
 -- the command is an ADD
 abbrev pub is_add : Command → Bool
 is_add Add = true
-is_add Modify = false
-is_add ModifyStrict = false
-is_add Delete = false
-is_add DeleteStrict = false
-
--- the command looks at the priority, and at one identity alone
-abbrev pub is_strict : Command → Bool
-is_strict Add = false
-is_strict Modify = false
-is_strict ModifyStrict = true
-is_strict Delete = false
-is_strict DeleteStrict = true
+is_add other = false
 
 -- the command takes entries out
 abbrev pub is_deletion : Command → Bool
-is_deletion Add = false
-is_deletion Modify = false
-is_deletion ModifyStrict = false
 is_deletion Delete = true
 is_deletion DeleteStrict = true
+is_deletion other = false
 
 -- the identity that the message spells
 abbrev pub identity_in : FlowMod → Identity

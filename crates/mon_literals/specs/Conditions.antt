@@ -5,7 +5,7 @@ use Rattle.mon_header.specs.declared.class.Class.{Class}
 use Rattle.mon_header.specs.declared.class.Class.TheVariants.{Tcp, Udp, Icmp, OtherIpv4, Plain, Arp}
 use Rattle.mon_header.specs.Assigned.{IPV4_TYPE, ARP_TYPE, TAG_TYPE, SERVICE_TAG_TYPE, PAUSE_TYPE, SLOW_TYPE, ICMP_PROTOCOL, TCP_PROTOCOL, UDP_PROTOCOL}
 use Rattle.mon_header.specs.Places.{header_size}
-use Rattle.mon_shows.specs.Views.{Viewing}
+use Rattle.mon_shows.specs.Views.{Viewing, MARK}
 use Rattle.mon_literals.specs.declared.condition.Condition.{Condition}
 use Rattle.mon_literals.specs.declared.condition.Condition.TheVariants.{Is, IsNot}
 use Rattle.mon_literals.specs.Runs.{run, spelled}
@@ -48,7 +48,7 @@ form_of Arp = Is (run 136 16 ARP_TYPE) ∷ Is (run 152 8 0) ∷ Is (run 232 16 0
 abbrev pub shared_of : ℕ → ℕ → List Condition
 shared_of tag in_port =
     Is (run 0 16 in_port) ∷ Is (run 112 16 tag) ∷ Is (run 128 5 0) ∷ Is (run 23 1 0)
-    ∷ IsNot (run 64 48 0x024d4f4e4f00) ∷ IsNot (run 64 44 0x0180c200000) ∷ Is (run 158 2 0) ∷ []
+    ∷ IsNot (run 64 48 MARK) ∷ IsNot (run 64 44 0x0180c200000) ∷ Is (run 158 2 0) ∷ []
 
 -- the clauses of one condition
 abbrev pub asked : Condition → List (List Lit)

@@ -1,7 +1,7 @@
 -- The shapes of emissions: what actions emit of each header of a class that came in at one port.
 use Rattle.std.specs.Prelude.{◌≡◌, ◌≢◌, ℕ, ◌*◌, ◌/◌, ◌%◌, Bool, true, false, ◌==◌, if◌then◌else◌, List, [], ◌∷◌, map, Option, Some, None}
 use Rattle.mon_header.specs.declared.class.Class.{Class}
-use Rattle.mon_header.specs.declared.class.Class.TheVariants.{Tcp, Udp, Icmp, OtherIpv4, Plain, Arp}
+use Rattle.mon_header.specs.declared.class.Class.TheVariants.{Tcp, Udp, Plain, Arp}
 use Rattle.mon_header.specs.declared.header.Header.{Header}
 use Rattle.mon_header.specs.declared.action.Action.{Action}
 use Rattle.mon_header.specs.declared.action.Action.TheVariants.{Output, SetVlanVid, SetVlanPcp, StripVlan, SetDlSrc, SetDlDst, SetNwSrc, SetNwDst, SetNwTos, SetTpSrc, SetTpDst, Enqueue, Unknown}
@@ -37,21 +37,15 @@ is_stripped (Some vlan) = vlan == UNTAGGED
 
 -- headers of the class are IPv4
 abbrev pub is_ipv4_class : Class → Bool
-is_ipv4_class Tcp = true
-is_ipv4_class Udp = true
-is_ipv4_class Icmp = true
-is_ipv4_class OtherIpv4 = true
 is_ipv4_class Plain = false
 is_ipv4_class Arp = false
+is_ipv4_class other = true
 
 -- headers of the class have the ports of TCP or UDP
 abbrev pub has_class_ports : Class → Bool
 has_class_ports Tcp = true
 has_class_ports Udp = true
-has_class_ports Icmp = false
-has_class_ports OtherIpv4 = false
-has_class_ports Plain = false
-has_class_ports Arp = false
+has_class_ports other = false
 
 -- the rewrite after one more action
 abbrev pub rewritten : Class → Action → Rewrite → Rewrite

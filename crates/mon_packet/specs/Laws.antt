@@ -5,7 +5,7 @@ use Rattle.mon_header.specs.declared.header.Header.{Header}
 use Rattle.mon_header.specs.Assigned.{IPV4_TYPE, ICMP_PROTOCOL, TCP_PROTOCOL, UDP_PROTOCOL}
 use Rattle.mon_header.specs.Classes.{in_class}
 use Rattle.mon_packet.specs.declared.nonce.Nonce.{Nonce}
-use Rattle.mon_packet.specs.Sums.{sum_of}
+use Rattle.mon_packet.specs.Sums.{ALL_ONES, sum_of}
 use Rattle.mon_packet.specs.Frames.{ethernet_size, rendered}
 use Rattle.mon_fields.specs.Fields.{number_at}
 use Rattle.mon_packet.specs.Reading.{total_of, parsed}
@@ -25,11 +25,11 @@ pseudo_of packet = drop 12 (take 20 packet) ++ (0 ∷ slice_index packet 9 ∷ b
 
 -- a receiver's sums over a packet of IPv4: with the right checksum all bits of a sum are set; a datagram has a checksum
 pub record HasRightSums (packet : List ℕ) : Type 0 where
-  pub header : sum_of (take 20 packet) ≡ 0xffff
-  pub tcp : slice_index packet 9 ≡ TCP_PROTOCOL → sum_of (pseudo_of packet ++ segment_of packet) ≡ 0xffff
-  pub udp : slice_index packet 9 ≡ UDP_PROTOCOL → sum_of (pseudo_of packet ++ segment_of packet) ≡ 0xffff
+  pub header : sum_of (take 20 packet) ≡ ALL_ONES
+  pub tcp : slice_index packet 9 ≡ TCP_PROTOCOL → sum_of (pseudo_of packet ++ segment_of packet) ≡ ALL_ONES
+  pub udp : slice_index packet 9 ≡ UDP_PROTOCOL → sum_of (pseudo_of packet ++ segment_of packet) ≡ ALL_ONES
   pub udp_has_one : slice_index packet 9 ≡ UDP_PROTOCOL → number_at 2 26 packet ≢ 0
-  pub icmp : slice_index packet 9 ≡ ICMP_PROTOCOL → sum_of (segment_of packet) ≡ 0xffff
+  pub icmp : slice_index packet 9 ≡ ICMP_PROTOCOL → sum_of (segment_of packet) ≡ ALL_ONES
 
 -- the packet of IPv4 in a rendered frame
 abbrev pub packet_in : Header → Nonce → List ℕ

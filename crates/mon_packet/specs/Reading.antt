@@ -2,6 +2,7 @@
 use Rattle.std.specs.Prelude.{ℕ, ◌*◌, ◌-◌, ◌/◌, ◌%◌, Bool, not, ◌==◌, nat_le, ◌&&◌, if◌then◌else◌, List, drop, take, length, slice_index, Option, Some, None}
 use Rattle.mon_fields.specs.Fields.{number_at}
 use Rattle.mon_header.specs.declared.header.Header.{Header}
+use Rattle.mon_header.specs.declared.header.TheConstants.{BLANK}
 use Rattle.mon_header.specs.Assigned.{LEAST_TYPE, IPV4_TYPE, ARP_TYPE, TAG_TYPE, SERVICE_TAG_TYPE, ICMP_PROTOCOL, TCP_PROTOCOL, UDP_PROTOCOL, VLAN_IDS, UNTAGGED}
 use Rattle.mon_packet.specs.declared.nonce.Nonce.{Nonce}
 use Rattle.mon_packet.specs.declared.ethernet.Ethernet.{Ethernet}
@@ -83,19 +84,12 @@ transport_of protocol packet =
 
 -- the header of a frame of another type than IPv4 and ARP
 unfoldable pub plain_header : Ethernet → Header
-plain_header e = record {
-  in_port = 0;
+plain_header e = record BLANK {
   dl_src = e.dl_src;
   dl_dst = e.dl_dst;
   dl_vlan = e.dl_vlan;
   dl_vlan_pcp = e.dl_vlan_pcp;
   dl_type = e.dl_type;
-  nw_tos = 0;
-  nw_proto = 0;
-  nw_src = 0;
-  nw_dst = 0;
-  tp_src = 0;
-  tp_dst = 0;
 }
 
 -- the header of a frame of IPv4

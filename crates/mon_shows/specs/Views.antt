@@ -26,6 +26,10 @@ pub record IsView (v : Viewing) : Type 0 where
   pub tag_high : v.tag ≤ LAST_VID
   pub ascending : PortsAscend 0 v.links
 
+-- the destination that marks packets which a rule drops: 02:4d:4f:4e:4f:00
+abbrev pub MARK : ℕ
+MARK = 0x024d4f4e4f00
+
 -- one of the links is at this port
 abbrev pub has_link : ℕ → List Near → Bool
 has_link port links = list_any (λ n. n.port == port) links
@@ -34,10 +38,16 @@ has_link port links = list_any (λ n. n.port == port) links
 abbrev pub is_unicast : ℕ → Bool
 is_unicast address = not (bit address 40)
 
--- the address is neither the one that marks dropped packets, 02:4d:4f:4e:4f:00, nor one that bridges keep to themselves
--- (IEEE 802.1Q, reserved addresses)
+-- the addresses that bridges keep to themselves (IEEE 802.1Q, reserved addresses)
+abbrev pub FIRST_RESERVED : ℕ
+FIRST_RESERVED = 0x0180c2000000
+
+abbrev pub LAST_RESERVED : ℕ
+LAST_RESERVED = 0x0180c200000f
+
+-- the address is neither the one that marks dropped packets, nor one of these
 unfoldable pub is_open : ℕ → Bool
-is_open address = not (address == 0x024d4f4e4f00) && not (nat_le 0x0180c2000000 address && nat_le address 0x0180c200000f)
+is_open address = not (address == MARK) && not (nat_le FIRST_RESERVED address && nat_le address LAST_RESERVED)
 
 -- a probe can have this header: it is in a class, came in at the port of a link with the switch's own tag, from one
 -- station, to an address that is open

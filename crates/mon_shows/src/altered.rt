@@ -2,8 +2,9 @@
 
 ghost use Rattle.std.specs.Prelude.{◌≡◌, ◌<◌, ◌≤◌, ◌+◌, ◌^◌, length, slice_index_or, if◌then◌else◌};
 ghost use Rattle.mon_table.specs.Rules.{identity_of};
-ghost use Rattle.mon_table.specs.Tables.{IsTable, AllActionsFit, without, with_rule};
+ghost use Rattle.mon_table.specs.Tables.{IsTable, AllActionsFit};
 ghost use Rattle.mon_table.specs.Places.{place_of, stands_at};
+ghost use Rattle.mon_shows.specs.Changing.{changed};
 ghost use Rattle.mon_shows.specs.Separation.{made_unsure, with_update, without_update};
 
 use crate::entry::Entry;
@@ -96,9 +97,9 @@ fn behind(t: &Table, place: u32, rule: &Rule) -> u32
     place
 }
 
-/// The table without a rule of this rule's identity.
-fn left_out<'a>(t: &'a Table, rule: &'a Rule) -> Altered<'a>
-    ensures { result ≡ without (identity_of rule.now) t.now }
+/// The table with the rule, made unsure or sure, in place of the one of its identity, or without that one.
+fn changed<'a>(t: &'a Table, rule: &'a Rule, comes: bool, unsure: bool) -> Altered<'a>
+    ensures { result ≡ changed comes (made_unsure unsure rule.now) t.now }
 {
     t.keeps();
     rule.keeps();
@@ -108,25 +109,7 @@ fn left_out<'a>(t: &'a Table, rule: &'a Rule) -> Altered<'a>
         table: t,
         place,
         rule,
-        comes: false,
-        unsure: false,
-        next,
-    }
-}
-
-/// The table with the rule, made unsure or sure, in place of one of its identity.
-fn counted_in<'a>(t: &'a Table, rule: &'a Rule, unsure: bool) -> Altered<'a>
-    ensures { result ≡ with_rule (made_unsure unsure rule.now) t.now }
-{
-    t.keeps();
-    rule.keeps();
-    let place = t.place_of(&rule.matching, rule.priority);
-    let next = behind(t, place, rule);
-    Altered {
-        table: t,
-        place,
-        rule,
-        comes: true,
+        comes,
         unsure,
         next,
     }
@@ -156,11 +139,11 @@ pub fn without_update<'a>(t: &'a Table, x: &'a Target) -> Altered<'a>
 {
     match x {
         Target::Put { rule, old } => match old {
-            None => left_out(t, rule),
-            Some(old) => counted_in(t, old, old.unsure || rule.unsure),
+            None => changed(t, rule, false, false),
+            Some(old) => changed(t, old, true, old.unsure || rule.unsure),
         },
-        Target::Cut { rule } => counted_in(t, rule, rule.unsure),
-        Target::Watch { rule } => left_out(t, rule),
+        Target::Cut { rule } => changed(t, rule, true, rule.unsure),
+        Target::Watch { rule } => changed(t, rule, false, false),
     }
 }
 
@@ -171,7 +154,7 @@ pub fn with_update<'a>(t: &'a Table, x: &'a Target) -> Altered<'a>
     ensures { result ≡ with_update t.now x.now }
 {
     match x {
-        Target::Put { rule, .. } | Target::Watch { rule } => counted_in(t, rule, false),
+        Target::Put { rule, .. } | Target::Watch { rule } => changed(t, rule, true, false),
         Target::Cut { rule } => whole(t, rule),
     }
 }

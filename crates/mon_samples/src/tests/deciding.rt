@@ -3,10 +3,10 @@
 ghost use Rattle.std.specs.Prelude.{◌≡◌, ◌<◌, ◌^◌, ◌+◌, Some, None, IfOk, length};
 ghost use Rattle.std.specs.Arc.{arc_value};
 
+use super::watching;
 use crate::{ipv4, narrow, two_neighbours, wide};
 use mon_header::OutOfMemory;
 use mon_job::{Job, Says};
-use mon_shows::Target;
 use mon_solve::{Certificate, Never, Stop, accept, certificate, decide};
 use mon_table::{Rule, Table};
 use std::alloc::Global;
@@ -20,16 +20,7 @@ fn watch(alloc: Global, watched: Rule, other: Rule) -> Result<Job, OutOfMemory>
     let mut table = Table::new(alloc);
     let _ = table.put(other)?;
     let _ = table.put(watched.copied(alloc)?)?;
-    Ok(Job {
-        number: 3,
-        session: 1,
-        slot: 0,
-        edit: 0,
-        version: 7,
-        view: two_neighbours(alloc)?,
-        table,
-        target: Target::Watch { rule: watched },
-    })
+    Ok(watching(two_neighbours(alloc)?, table, watched))
 }
 
 /// The job of a rule that has a probe: all IPv4, but for 10.0.0.0/24, is its own.

@@ -6,7 +6,7 @@ ghost use Rattle.mon_encode.specs.Cases.{IsCaseOf};
 use crate::{IPV4, sending, two_neighbours};
 use mon_cnf::holds;
 use mon_encode::{Case, cases, decode_model, encode, encode_header};
-use mon_header::{Class, Header, Match, OutOfMemory, same_header};
+use mon_header::{CLASSES, Header, Match, OutOfMemory, same_header};
 use mon_job::Job;
 use mon_literals::borne;
 use mon_outcome::Emission;
@@ -144,15 +144,7 @@ fn cases_stand_in_order(rt: HostRuntime) -> Result<(), Fail> {
         (2, None, 0),
     ];
     for (i, case) in found.items().iter().enumerate() {
-        let classes = [
-            Class::Tcp,
-            Class::Udp,
-            Class::Icmp,
-            Class::OtherIpv4,
-            Class::Plain,
-            Class::Arp,
-        ];
-        assert!(rt; i < 30 && case.class == classes[i / 5]);
+        assert!(rt; i < 30 && case.class == CLASSES[i / 5]);
         let (in_port, winner, emission) = first[i % 5];
         assert!(rt; case.in_port == in_port && case.winner == winner && case.emission == emission);
     }

@@ -3,12 +3,13 @@
 ghost use Rattle.std.specs.Prelude.{◌≡◌, [], IfOk};
 ghost use Rattle.std.specs.Arc.{arc_value};
 
+use super::watching;
 use crate::{PACKET, neighbours, sending, with_neighbours};
 use mon_header::{Header, Match, OutOfMemory};
 use mon_job::{Job, Says, Verdict};
 use mon_list::Items;
 use mon_outcome::{Emission, same_emission};
-use mon_shows::{Target, View, separates};
+use mon_shows::{View, separates};
 use mon_table::Table;
 use std::alloc::Global;
 use std::sync::Arc;
@@ -22,16 +23,7 @@ fn watch(alloc: Global, view: View) -> Result<Job, OutOfMemory>
     let rule = sending(alloc, Match::normal(0x003fffff, PACKET), 100, &[2])?;
     let mut table = Table::new(alloc);
     let _ = table.put(rule.copied(alloc)?)?;
-    Ok(Job {
-        number: 3,
-        session: 1,
-        slot: 0,
-        edit: 0,
-        version: 7,
-        view,
-        table,
-        target: Target::Watch { rule },
-    })
+    Ok(watching(view, table, rule))
 }
 
 /// Takes only what threads may share.

@@ -4,7 +4,7 @@ use crate::{IPV4, PACKET, two_neighbours};
 use mon_cnf::{Formula, Lit, OutOfMemory, holds};
 use mon_header::{Class, HEADER_BITS, Header, Match, bit, same_header};
 use mon_literals::{borne, differ, pattern, push_class};
-use mon_outcome::Rewrite;
+use mon_outcome::{COPIED, Rewrite};
 use mon_shows::View;
 use std::alloc::Global;
 use std::test::Fail;
@@ -15,22 +15,6 @@ const FRAME: Header = Header {
     nw_proto: 0,
     nw_dst: 0,
     ..PACKET
-};
-
-/// A rewrite that copies each field.
-const COPY: Rewrite = Rewrite {
-    in_port: None,
-    dl_src: None,
-    dl_dst: None,
-    dl_vlan: None,
-    dl_vlan_pcp: None,
-    dl_type: None,
-    nw_tos: None,
-    nw_proto: None,
-    nw_src: None,
-    nw_dst: None,
-    tp_src: None,
-    tp_dst: None,
 };
 
 fn bits(h: &Header) -> [bool; HEADER_BITS as usize] {
@@ -111,14 +95,14 @@ fn classes_have_headers_of_probes(rt: HostRuntime) -> Result<(), Fail> {
 fn rewrites_differ_by_what_they_fix(rt: HostRuntime) -> Result<(), Fail> {
     let fixed = |nw_dst| Rewrite {
         nw_dst: Some(nw_dst),
-        ..COPY
+        ..COPIED
     };
     assert!(rt; differ(rt.alloc(), &fixed(1), &fixed(2))?.is_none());
     let same = differ(rt.alloc(), &fixed(1), &fixed(1))?.expect(&rt, "one value");
     assert!(rt; same.items().is_empty());
     // The header's own address is 10.0.0.1.
     for (nw_dst, wanted) in [(0x0a000001, false), (0x0a000003, true)] {
-        let clause = differ(rt.alloc(), &COPY, &fixed(nw_dst))?.expect(&rt, "one value");
+        let clause = differ(rt.alloc(), &COPIED, &fixed(nw_dst))?.expect(&rt, "one value");
         let values = bits(&PACKET);
         let is_true = clause
             .items()

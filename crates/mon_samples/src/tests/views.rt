@@ -176,30 +176,17 @@ fn packets_separate_as_worked_out(rt: HostRuntime) -> Result<(), Fail> {
         ..PACKET
     };
     let (by_2, miss) = (Emission::Port(2, PACKET), Emission::Miss(PACKET));
+    let (back_1, back_2) = (Emission::Port(1, back), Emission::Port(2, back));
     for (update, lower, miss_length, h, e, wanted) in [
         (Update::Put, false, 128, PACKET, by_2, true),
-        (
-            Update::Put,
-            false,
-            128,
-            back,
-            Emission::Port(2, back),
-            false,
-        ),
+        (Update::Put, false, 128, back, back_2, false),
         (Update::Put, true, 128, PACKET, by_2, false),
         (Update::Watch, false, 128, PACKET, by_2, true),
         (Update::Cut, false, 128, PACKET, miss, true),
         (Update::Cut, false, 127, PACKET, miss, false),
         (Update::Cut, true, 128, PACKET, by_2, false),
         (Update::Narrowed, false, 128, PACKET, by_2, false),
-        (
-            Update::Moved,
-            false,
-            128,
-            back,
-            Emission::Port(1, back),
-            true,
-        ),
+        (Update::Moved, false, 128, back, back_1, true),
         (Update::Dropping, false, 128, PACKET, by_2, false),
         (Update::Dropping, false, 128, PACKET, miss, false),
     ] {
@@ -231,12 +218,12 @@ fn is_shown(alloc: Global, table: &Table, h: &Header) -> Result<bool, OutOfMemor
 #[test]
 fn tied_rules_are_never_sure(rt: HostRuntime) -> Result<(), Fail> {
     let alloc = rt.alloc();
+    let mut table = catching(alloc)?;
+    let _ = table.put(from_8(alloc)?)?;
     let h = Header {
         nw_src: 0x0a000001,
         ..PACKET
     };
-    let mut table = catching(alloc)?;
-    let _ = table.put(from_8(alloc)?)?;
     assert!(rt; is_shown(alloc, &table, &h)?);
     assert!(rt; table.tied(&to_8(alloc)?));
     let _ = table.put(to_8(alloc)?)?;
