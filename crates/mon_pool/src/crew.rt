@@ -68,6 +68,10 @@ impl<'a, R: Wait> Crew for PoolCrew<'a, R> {
     ghost use Rattle.mon_pool.specs.Crew.{released_of};
     ghost use Rattle.mon_pool.specs.Places.{unanswered_of, versions_of, last_of};
 
+    type Place = &'a Pool;
+
+    ghost place = { λ c. c.pool };
+
     ghost empties = { λ c. c.empties };
 
     ghost last = { λ c. last_of c.side };
