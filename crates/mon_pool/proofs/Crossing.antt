@@ -9,6 +9,7 @@ use Rattle.mon_header.specs.contracts.action.RawAction as RawAction
 use Rattle.mon_header.specs.contracts.action.Action as Action
 use Rattle.mon_header.specs.contracts.actions.Actions as Actions
 use Rattle.mon_table.specs.contracts.rule.Rule as Rule
+use Rattle.mon_table.specs.contracts.chunk.Chunk as Chunk
 use Rattle.mon_table.specs.contracts.table.Table as Table
 use Rattle.mon_shows.specs.contracts.view.View as View
 use Rattle.mon_shows.specs.contracts.target.Target as Target
@@ -55,11 +56,29 @@ rule_send = let a = rule_part_send in search (sendable, crosses) depth 30
 rule_sync : IsSync Rule.the_row
 rule_sync = let a = rule_part_sync in search (sendable, crosses) depth 30
 
+chunk_part_send : IsSend (Chunk.the_field).row
+chunk_part_send = let a = rule_send in search (sendable, crosses) depth 30
+
+chunk_part_sync : IsSync (Chunk.the_field).row
+chunk_part_sync = let a = rule_sync in search (sendable, crosses) depth 30
+
+chunk_send : IsSend Chunk.the_row
+chunk_send = let a = chunk_part_send in search (sendable, crosses) depth 30
+
+chunk_sync : IsSync Chunk.the_row
+chunk_sync = let a = chunk_part_sync in search (sendable, crosses) depth 30
+
 table_part_send : IsSend (Table.the_field).row
-table_part_send = let a = rule_send in search (sendable, crosses) depth 30
+table_part_send =
+    let a = chunk_send in
+    let b = chunk_sync in
+    search (sendable, crosses) depth 30
 
 table_part_sync : IsSync (Table.the_field).row
-table_part_sync = let a = rule_sync in search (sendable, crosses) depth 30
+table_part_sync =
+    let a = chunk_send in
+    let b = chunk_sync in
+    search (sendable, crosses) depth 30
 
 view_part_send : IsSend (View.the_field).row
 view_part_send = search (sendable, crosses) depth 30

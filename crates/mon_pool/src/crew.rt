@@ -109,6 +109,7 @@ impl<'a, R: Wait> Crew for PoolCrew<'a, R> {
         ensures later { self.old.empties ≤ self.new.empties }
         ensures last { last_of self.new.side ≡ last_of self.old.side }
         ensures versions { versions_of self.new.side ≡ versions_of self.old.side }
+        ensures place { self.new.pool ≡ self.old.pool }
     {
         match self.pool.take(self.rt, alloc, &mut self.side) {
             Some(verdict) => Some(verdict),
