@@ -58,15 +58,15 @@ impl<'a, R: Wait> PoolCrew<'a, R> {
 }
 
 impl<'a, R: Wait> Crew for PoolCrew<'a, R> {
-    ghost use Rattle.std.specs.Prelude.{◌≤◌, true, None, IfSome, IfNone};
-    ghost use Rattle.crossbeam_queue.specs.Passes.{view};
+    ghost use Rattle.std.specs.Prelude.{◌≤◌, ◌<◌, ◌≢◌, ◌++◌, [], ◌∷◌, true, false, None, OnOk, OnErr, IfSome, IfNone, slice_set};
+    ghost use Rattle.crossbeam_queue.specs.Passes.{view, ruled_capacity};
     ghost use Rattle.crossbeam_queue.specs.Fifo.{Held};
     ghost use Rattle.mon_tally.specs.Tallies.{WasSo};
     ghost use Rattle.mon_world.specs.Causes.{Rose};
-    ghost use Rattle.mon_world.specs.Crews.{Took};
-    ghost use Rattle.mon_pool.specs.Plain.{told};
+    ghost use Rattle.mon_world.specs.Crews.{Took, Releases, version_at};
+    ghost use Rattle.mon_pool.specs.Plain.{told, arc_job};
     ghost use Rattle.mon_pool.specs.Crew.{released_of};
-    ghost use Rattle.mon_pool.specs.Places.{unanswered_of, versions_of, last_of};
+    ghost use Rattle.mon_pool.specs.Places.{offered_by, answered_by, unanswered_of, waiting_of, published_of, versions_of, dropped_by, last_of};
 
     type Place = &'a Pool;
 
@@ -84,16 +84,50 @@ impl<'a, R: Wait> Crew for PoolCrew<'a, R> {
 
     ghost answers_alone = { λ _. true };
 
-    fn offer(&mut self, alloc: Global, job: Job) -> Result<(), OutOfMemory> {
+    /// Is the pool's `offer` over the crew's side.
+    fn offer(&mut self, alloc: Global, job: Job) -> Result<(), OutOfMemory>
+        requires number { last_of self.old.side < job.number }
+        ensures offered { OnOk result (unanswered_of self.new.side ≡ unanswered_of self.old.side ++ job ∷ []) }
+        ensures last { OnOk result (last_of self.new.side ≡ job.number) }
+        ensures same { OnErr result (unanswered_of self.new.side ≡ unanswered_of self.old.side) }
+        ensures same_last { OnErr result (last_of self.new.side ≡ last_of self.old.side) }
+        ensures released { released_of self.new.side ≡ released_of self.old.side }
+        ensures versions { versions_of self.new.side ≡ versions_of self.old.side }
+        ensures empties { self.new.empties ≡ self.old.empties }
+        ensures place { self.new.pool ≡ self.old.pool }
+        ensures all { OnOk result (offered_by self.new.side ≡ offered_by self.old.side ++ job ∷ []) }
+        ensures unchanged { OnErr result (self.new.side ≡ self.old.side) }
+        ensures full { OnOk result (waiting_of self.new.side ≢ [] → Held (ruled_capacity self.new.pool.now.jobs) (WasSo arc_job (view self.new.side.jobs))) }
+        ensures answered { (answered_by self.new.side ≡ answered_by self.old.side) × (dropped_by self.new.side ≡ dropped_by self.old.side) }
+        ensures published { published_of self.new.side ≡ published_of self.old.side }
+    {
         self.pool.offer(self.rt, alloc, &mut self.side, job)
     }
 
-    fn publish(&mut self, slot: u32, version: u64) {
+    /// Is the pool's `publish` over the crew's side.
+    fn publish(&mut self, slot: u32, version: u64)
+        requires slot { slot < 64 }
+        requires later { version_at slot (versions_of self.old.side) ≤ version }
+        ensures versions { versions_of self.new.side ≡ slice_set (versions_of self.old.side) slot version }
+        ensures unanswered { unanswered_of self.new.side ≡ unanswered_of self.old.side }
+        ensures last { last_of self.new.side ≡ last_of self.old.side }
+        ensures released { released_of self.new.side ≡ released_of self.old.side }
+        ensures empties { self.new.empties ≡ self.old.empties }
+        ensures place { self.new.pool ≡ self.old.pool }
+        ensures published { published_of self.new.side ≡ published_of self.old.side ++ (slot, version) ∷ [] }
+        ensures all { offered_by self.new.side ≡ offered_by self.old.side }
+        ensures answered { (answered_by self.new.side ≡ answered_by self.old.side) × (dropped_by self.new.side ≡ dropped_by self.old.side) }
+    {
         self.pool.publish(&mut self.side, slot, version);
     }
 
     /// Always false.
-    fn release(&mut self, _index: u32) -> bool {
+    fn release(&mut self, index: u32) -> bool
+        ensures never { result ≡ false }
+        ensures whole { self.new ≡ self.old }
+        ensures releases { Releases index true (unanswered_of self.old.side) result (released_of self.new.side) }
+    {
+        let _ = index;
         false
     }
 
@@ -110,6 +144,11 @@ impl<'a, R: Wait> Crew for PoolCrew<'a, R> {
         ensures last { last_of self.new.side ≡ last_of self.old.side }
         ensures versions { versions_of self.new.side ≡ versions_of self.old.side }
         ensures place { self.new.pool ≡ self.old.pool }
+        ensures answered { IfSome result (λ verdict. answered_by self.new.side ≡ answered_by self.old.side ++ verdict.job ∷ []) }
+        ensures unanswered { IfNone result (answered_by self.new.side ≡ answered_by self.old.side) }
+        ensures full { waiting_of self.new.side ≢ [] → Held (ruled_capacity self.new.pool.now.jobs) (WasSo arc_job (view self.new.side.jobs)) }
+        ensures all { offered_by self.new.side ≡ offered_by self.old.side }
+        ensures published { published_of self.new.side ≡ published_of self.old.side }
     {
         match self.pool.take(self.rt, alloc, &mut self.side) {
             Some(verdict) => Some(verdict),
